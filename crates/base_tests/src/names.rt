@@ -1,47 +1,12 @@
-//! File names: what is refused, their order, how each kind is spelled, and numbers in base 36.
+//! How names of each kind and numbers are spelled.
 
+use body_forms::{push_vint, read_vint, vint_len};
 use file_names::{
-    Base36Fault, FileName, NameFault, SegPart, base36, commit_name, file_name, live_name,
-    part_name, pending_name, read_base36, temp_name,
+    FileName, SegPart, base36, commit_name, live_name, part_name, pending_name, read_base36,
+    temp_name,
 };
-use nrt_base::{SegNo, Share};
+use nrt_base::SegNo;
 use std::test::Fail;
-
-fn refusal(bytes: &[u8]) -> Option<NameFault> {
-    file_name(bytes).err()
-}
-
-#[test]
-fn file_names_are_refused_in_order(rt: HostRuntime) -> Result<(), Fail> {
-    assert_eq!(rt; refusal(b"_10000_1.liv"), None);
-    assert_eq!(rt; refusal(&[b'z'; 64]), None);
-    assert_eq!(rt; refusal(b""), Some(NameFault::Empty));
-    assert_eq!(rt; refusal(&[b'/'; 65]), Some(NameFault::Long(65)));
-    assert_eq!(rt; refusal(b"segments-1/"), Some(NameFault::Byte(8)));
-    assert_eq!(rt; refusal(b"A"), Some(NameFault::Byte(0)));
-    Ok(())
-}
-
-fn named(bytes: &[u8]) -> Result<FileName, Fail> {
-    file_name(bytes).map_err(|_| Fail::from("no name"))
-}
-
-#[test]
-fn file_names_are_ordered_by_their_bytes(rt: HostRuntime) -> Result<(), Fail> {
-    let alloc = rt.alloc();
-    let mut names = Vec::new(alloc);
-    names.push(named(b"segments_1")?)?;
-    names.push(named(b"_10000.si")?)?;
-    names.push(named(b"_10000.docs")?)?;
-    names.push(named(b"_10000")?)?;
-    names.sort()?;
-    assert_eq!(rt; names.len(), 4);
-    assert_eq!(rt; names[0].as_slice(), b"_10000".as_slice());
-    assert_eq!(rt; names[1].as_slice(), b"_10000.docs".as_slice());
-    assert_eq!(rt; names[3].as_slice(), b"segments_1".as_slice());
-    assert!(rt; names[1] == names[1].share(alloc)?);
-    Ok(())
-}
 
 #[test]
 fn names_of_each_kind(rt: HostRuntime) {
@@ -80,17 +45,21 @@ fn numbers_have_one_spelling(rt: HostRuntime) {
 }
 
 #[test]
-fn base36_faults_in_order(rt: HostRuntime) {
-    let cases: [(&[u8], Base36Fault); 7] = [
-        (b"", Base36Fault::Empty),
-        (b"10A", Base36Fault::Digit(2)),
-        (b"-1", Base36Fault::Digit(0)),
-        (b"00.", Base36Fault::Digit(2)),
-        (b"01", Base36Fault::LeadingZero),
-        (b"3w5e11264sgsg", Base36Fault::TooLarge),
-        (b"zzzzzzzzzzzzzzzz", Base36Fault::TooLarge),
+fn shortest_forms(rt: HostRuntime) -> Result<(), Fail> {
+    let forms: [(u32, &[u8]); 6] = [
+        (0, b"\x00"),
+        (127, b"\x7f"),
+        (128, b"\x80\x01"),
+        (300, b"\xac\x02"),
+        (16384, b"\x80\x80\x01"),
+        (u32::MAX, b"\xff\xff\xff\xff\x0f"),
     ];
-    for (bytes, fault) in cases {
-        assert_eq!(rt; read_base36(bytes), Err(fault), "at {bytes:?}");
+    for (n, form) in forms {
+        let mut out = Vec::new(rt.alloc());
+        push_vint(&mut out, n)?;
+        assert_eq!(rt; out.as_slice(), form, "at {n}");
+        assert_eq!(rt; vint_len(n), form.len(), "at {n}");
+        assert_eq!(rt; read_vint(form), Ok((n, form.len())), "at {n}");
     }
+    Ok(())
 }

@@ -22,6 +22,3 @@ pub use read_fault::ReadFault;
 pub use strings::{push_string, string_of};
 pub use table_parts::{push_end, push_table};
 pub use vint::{VIntFault, push_vint, read_vint, vint_len};
-
-#[cfg(test)]
-mod tests;

@@ -62,25 +62,3 @@ fn push_parts(out: &mut Vec<u8>, count: usize, offsets: &[u8], area: &[u8]) -> R
     }
     Ok(())
 }
-
-#[cfg(test)]
-mod tests {
-    use super::*;
-    use std::test::Fail;
-
-    #[test]
-    fn table_of_one_item(rt: HostRuntime) -> Result<(), Fail> {
-        let mut offsets = Vec::new(rt.alloc());
-        let mut area = Vec::new(rt.alloc());
-        push_end(&mut offsets, &area)?;
-        area.push(7)?;
-        push_end(&mut offsets, &area)?;
-        let mut table = Vec::new(rt.alloc());
-        push_table(&mut table, 1, &offsets, &area)?;
-        assert_eq!(rt;
-            table.as_slice(),
-            b"\0\0\0\x01\0\0\0\0\0\0\0\x01\x07".as_slice()
-        );
-        Ok(())
-    }
-}

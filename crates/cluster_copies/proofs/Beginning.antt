@@ -12,12 +12,12 @@ use Rattle.segment_infos.specs.declared.infos.Infos.{Infos}
 use Rattle.segment_infos.specs.Files.{files_of_segment, AreFilesOf}
 use Rattle.segment_infos.proofs.FileLaws.{infos_files_one_to_one}
 use Rattle.copy_state.specs.declared.state.CopyState.{CopyState}
-use Rattle.primary_state.specs.declared.parts.Parts.{Parts as PrimaryParts}
+use Rattle.primary_state.specs.declared.parts.PrimaryParts.{PrimaryParts}
 use Rattle.primary_state.specs.declared.states.Out.{Out}
 use Rattle.primary_state.specs.States.{out_of, is_out}
 use Rattle.replica_opening.specs.Known.{IsLasting, HasMeta}
 use Rattle.replica_state.specs.declared.job.PointJob.{PointJob}
-use Rattle.replica_state.specs.declared.parts.Parts.{Parts as ReplicaParts}
+use Rattle.replica_state.specs.declared.parts.ReplicaParts.{ReplicaParts}
 use Rattle.history_rules.specs.declared.entry.Event.{Event}
 use Rattle.history_rules.specs.declared.entry.Event.TheVariants.{Copying}
 use Rattle.history_rules.specs.Nodes.{Past, IsNode, is_at, primary_of, newest_version, version_of}
@@ -38,7 +38,7 @@ use Rattle.history_book.specs.Turns.{InTurn, AreInTurn}
 use Rattle.history_book.proofs.ReignLaws.{crashed_low, primary_crashed_low}
 use Rattle.cluster_nodes.specs.declared.nodes.Node.{Node}
 use Rattle.cluster_nodes.specs.declared.nodes.Node.TheVariants.{Primary, Replica, Down}
-use Rattle.cluster_nodes.specs.declared.nodes.Place.{Place}
+use Rattle.cluster_nodes.specs.declared.nodes.NodePlace.{NodePlace}
 use Rattle.cluster_nodes.specs.Places.{place_of}
 use Rattle.cluster_state.specs.State.{NodeShows, Shows}
 use Rattle.cluster_state.specs.FilesOut.{is_job, file_out}
@@ -184,18 +184,18 @@ module _ {D : Type 0} (cells : D → Cells) where
   -- ---- how many jobs there are
 
   -- one of the state with which the job began, and none of the state of the job before it
-  pub begun_counted : (size : ℕ) (old new : List (Option (Place D))) (p n number : ℕ) (b : BeginsIn cells p n number old new) → IsNode size n → (t : Out)
+  pub begun_counted : (size : ℕ) (old new : List (Option (NodePlace D))) (p n number : ℕ) (b : BeginsIn cells p n number old new) → IsNode size n → (t : Out)
       → jobs_like new t size + one_like t (want_of b.both.replica.parts.job) ≡ jobs_like old t size + one_like t (Some (out_of b.begins.state))
   begun_counted size old new p n number b node t =
       let moved = jobs_moved old new t n size node.0 node.1 apart_wants in
-      let was : one_like t (want_at (place_of old n)) ≡ one_like t (want_of b.both.replica.parts.job) = ap (λ (o : Option (Place D)). one_like t (want_at o)) b.both.replica.there in
+      let was : one_like t (want_at (place_of old n)) ≡ one_like t (want_of b.both.replica.parts.job) = ap (λ (o : Option (NodePlace D)). one_like t (want_at o)) b.both.replica.there in
       let is : one_like t (want_at (place_of new n)) ≡ one_like t (Some (out_of b.begins.state)) = ap (one_like t) want_new in
       omega (arith, moved, was, is)
     where
-      x : Place D
+      x : NodePlace D
       x = record { node = Primary b.primary; held = b.both.primary.held }
 
-      y : Place D
+      y : NodePlace D
       y = record { node = Replica b.replica; held = b.both.replica.held }
 
       there_n : place_of new n ≡ Some y
@@ -209,7 +209,7 @@ module _ {D : Type 0} (cells : D → Cells) where
 
   -- ---- all of them
 
-  pub files_begun : (size : ℕ) (log mid : Log) (old new : List (Option (Place D))) (at : At) (p n : NodeNo) (v : Version) (number : ℕ)
+  pub files_begun : (size : ℕ) (log mid : Log) (old new : List (Option (NodePlace D))) (at : At) (p n : NodeNo) (v : Version) (number : ℕ)
       → ((infos : Infos) (names : List Name) → AreFilesOf infos names → (q : Name) → Contains (flat_map files_of_segment infos.segs) q → IsLasting q)
       → BeginsOver log mid at n.0 v.0 → BeginsIn cells p.0 n.0 number old new → IsOlder v.0 (job_at n.0 log) → version_of n.0 (printed log) < v.0 → primary_of (printed log) ≡ Some p → IsNode size p.0 → IsNode size n.0
       → Shows cells log size old → FilesShow cells log size old → FilesShow cells (kept (JobBegun at.line n number (Some v) (Some at)) ∷ mid) size new
@@ -240,10 +240,10 @@ module _ {D : Type 0} (cells : D → Cells) where
       r : ReplicaParts D
       r = b.both.replica.parts
 
-      x : Place D
+      x : NodePlace D
       x = record { node = Primary b.primary; held = b.both.primary.held }
 
-      y : Place D
+      y : NodePlace D
       y = record { node = Replica b.replica; held = b.both.replica.held }
 
       jobs : Out → ℕ

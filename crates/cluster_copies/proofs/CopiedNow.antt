@@ -8,7 +8,7 @@ use Rattle.nrt_base.specs.declared.numbers.NodeNo.{NodeNo}
 use Rattle.nrt_base.specs.declared.numbers.Version.{Version}
 use Rattle.disk_model.specs.Disk.{Name, Content, Cells}
 use Rattle.replica_state.specs.declared.job.PointJob.{PointJob}
-use Rattle.replica_state.specs.declared.parts.Parts.{Parts as ReplicaParts}
+use Rattle.replica_state.specs.declared.parts.ReplicaParts.{ReplicaParts}
 use Rattle.replica_state.specs.Replica.{IsJobAbove}
 use Rattle.history_rules.specs.declared.entry.Event.TheVariants.{Publishing, Copying, Copied}
 use Rattle.history_rules.specs.Nodes.{Past, IsNode, IsReplica, crashes, primary_of, primary_crashes, newest_version, version_of}
@@ -26,7 +26,7 @@ use Rattle.history_book.specs.Turns.{InTurn, AreInTurn}
 use Rattle.history_book.specs.Jobs.{last_job, job_at}
 use Rattle.cluster_nodes.specs.declared.nodes.Node.{Node}
 use Rattle.cluster_nodes.specs.declared.nodes.Node.TheVariants.{Primary, Replica, Down}
-use Rattle.cluster_nodes.specs.declared.nodes.Place.{Place}
+use Rattle.cluster_nodes.specs.declared.nodes.NodePlace.{NodePlace}
 use Rattle.cluster_nodes.specs.Places.{place_of}
 use Rattle.cluster_nodes.specs.Outs.{jobs_like}
 use Rattle.cluster_state.specs.Run.{Rest, Run}
@@ -128,17 +128,17 @@ module _ {D : Type 0} (cells : D → Cells) where
   replica_here log n (Down d) is shows P step = absurd (true≢false (sym is.running ∙ shows.down))
 
   -- no copy of the newest version to such a replica is in flight
-  free_now : (log : Log) (size n : ℕ) (places : List (Option (Place D))) (at : At) → Shows cells log size places → FilesShow cells log size places → IsNode size n → IsReplica (printed log) n
+  free_now : (log : Log) (size n : ℕ) (places : List (Option (NodePlace D))) (at : At) → Shows cells log size places → FilesShow cells log size places → IsNode size n → IsReplica (printed log) n
       → version_of n (printed log) ≡ newest_version (printed log) → is_free_for at (copy_in_flight n (newest_version (printed log)) (printed log)) ≡ true
   free_now log size n places at shows files node replica reached = found (place_of places n) (both_of cells log size places shows files n node)
     where
-      found : (o : Option (Place D)) → IsSomeAnd o (Both cells files.source log (λ s. jobs_like places s size) n) → is_free_for at (copy_in_flight n (newest_version (printed log)) (printed log)) ≡ true
+      found : (o : Option (NodePlace D)) → IsSomeAnd o (Both cells files.source log (λ s. jobs_like places s size) n) → is_free_for at (copy_in_flight n (newest_version (printed log)) (printed log)) ≡ true
       found None both = absurd both
       found (Some x) both =
           replica_here log n x.node replica both.0.node_shows (λ z. NodeFiles files.source cells log (λ s. jobs_like places s size) n z → is_free_for at (copy_in_flight n (newest_version (printed log)) (printed log)) ≡ true)
           (λ r shows mine. no_copy log n r files.source (no_job log n r files.source shows reached mine) mine at) both.1
 
-  may_copy : (log : Log) (size : ℕ) (places : List (Option (Place D))) (at : At) (n : NodeNo) (v : Version) → Shows cells log size places → FilesShow cells log size places → IsNode size n.0 → IsReplica (printed log) n.0
+  may_copy : (log : Log) (size : ℕ) (places : List (Option (NodePlace D))) (at : At) (n : NodeNo) (v : Version) → Shows cells log size places → FilesShow cells log size places → IsNode size n.0 → IsReplica (printed log) n.0
       → primary_of (printed log) ≢ None → version_of n.0 (printed log) ≡ newest_version (printed log) → v.0 ≡ newest_version (printed log) → KeepsRule size (printed log) at (Copying n v)
   may_copy log size places at n v shows files node replica source reached newest = record {
     node = node;
@@ -149,7 +149,7 @@ module _ {D : Type 0} (cells : D → Cells) where
   }
 
   -- all nodes behind both entries
-  files_copied : (log : Log) (size : ℕ) (places : List (Option (Place D))) (at : At) (n : NodeNo) (v : Version) → IsLegalPast size (printed log) → AreInTurn (printed log)
+  files_copied : (log : Log) (size : ℕ) (places : List (Option (NodePlace D))) (at : At) (n : NodeNo) (v : Version) → IsLegalPast size (printed log) → AreInTurn (printed log)
       → KeepsRule size (printed log) at (Copying n v) → InTurn (printed log) at (Copying n v) → KeepsRule size (record { at = at; event = Copying n v } ∷ printed log) at (Copied n v)
       → version_of n.0 (printed log) ≡ newest_version (printed log) → Shows cells log size places → FilesShow cells log size places → FilesShow cells (copied_log at n v log) size places
   files_copied log size places at n v legal turns rule turn later reached shows files = record {
@@ -194,7 +194,7 @@ module _ {D : Type 0} (cells : D → Cells) where
 
   -- ---- in the terms of a call
 
-  module _ (r : Run) (ended : Bool) (b0 b1 : Sheet) (places : List (Option (Place D))) (at : At) (n : NodeNo) (v : Version)
+  module _ (r : Run) (ended : Bool) (b0 b1 : Sheet) (places : List (Option (NodePlace D))) (at : At) (n : NodeNo) (v : Version)
       {left : Rest} (view : record { ended = ended; nodes = b0.nodes; log = b0.log; rest = left } ≡ r) (running : r.ended ≡ false) (shows : ended ≡ false → Shows cells b0.log b0.nodes places) (files : ended ≡ false → FilesShow cells b0.log b0.nodes places)
       (e1 : b1.log ≡ b0.log) (n1 : b1.nodes ≡ b0.nodes) (fresh : IsFresh at (printed b0.log)) (node : IsNode r.nodes n.0) (replica : IsReplica (printed r.log) n.0) (source : primary_of (printed r.log) ≢ None)
       (reached : version_of n.0 (printed r.log) ≡ newest_version (printed r.log)) (newest : v.0 ≡ newest_version (printed b0.log)) where

@@ -13,7 +13,7 @@ use Rattle.segment_infos.specs.Files.{files_of_segment, AreFilesOf}
 use Rattle.primary_state.specs.declared.states.Out.{Out}
 use Rattle.replica_opening.specs.Known.{IsLasting}
 use Rattle.replica_state.specs.declared.job.PointJob.{PointJob}
-use Rattle.replica_state.specs.declared.parts.Parts.{Parts as ReplicaParts}
+use Rattle.replica_state.specs.declared.parts.ReplicaParts.{ReplicaParts}
 use Rattle.history_rules.specs.declared.entry.Event.{Event}
 use Rattle.history_rules.specs.declared.entry.Event.TheVariants.{Copying, Settling}
 use Rattle.history_rules.specs.Nodes.{Past, IsNode, IsReplica, is_at, primary_of, primary_crashes, crashes, generation_of, newest_version, version_of}
@@ -36,7 +36,7 @@ use Rattle.history_book.specs.Laws.{IsFresh}
 use Rattle.history_book.proofs.ReignLaws.{start_kept}
 use Rattle.history_book.proofs.JobLaws.{newest_before}
 use Rattle.cluster_nodes.specs.declared.nodes.Node.TheVariants.{Primary, Replica}
-use Rattle.cluster_nodes.specs.declared.nodes.Place.{Place}
+use Rattle.cluster_nodes.specs.declared.nodes.NodePlace.{NodePlace}
 use Rattle.cluster_state.specs.Run.{Rest, Run, files_at}
 use Rattle.cluster_nodes.specs.Places.{place_of, HasPrimary}
 use Rattle.cluster_state.specs.State.{Shows}
@@ -131,7 +131,7 @@ module _ {D : Type 0} (cells : D → Cells) where
       clash None older none = none
       clash (Some job) older some = absurd (omega (arith, older, some.1))
 
-  can_begin_of : (log : Log) (size : ℕ) (places : List (Option (Place D))) (p n : NodeNo) (shows : Shows cells log size places) (files : FilesShow cells log size places) → IsNode size p.0 → IsNode size n.0 → primary_of (printed log) ≡ Some p
+  can_begin_of : (log : Log) (size : ℕ) (places : List (Option (NodePlace D))) (p n : NodeNo) (shows : Shows cells log size places) (files : FilesShow cells log size places) → IsNode size p.0 → IsNode size n.0 → primary_of (printed log) ≡ Some p
       → IsReplica (printed log) n.0 → version_of n.0 (printed log) < newest_version (printed log) → CanBegin p.0 n.0 places
   can_begin_of log size places p n shows files node_p node_n primary replica behind = record {
     stand = record {
@@ -167,7 +167,7 @@ module _ {D : Type 0} (cells : D → Cells) where
       here_n = replica_here cells log size n.0 places shows files node_n replica
 
   -- both nodes as they are now, at the log of before
-  begun_places : (log : Log) (size : ℕ) (old new : List (Option (Place D))) (p n : NodeNo) (number : ℕ) (shows : Shows cells log size old) (files : FilesShow cells log size old) → IsNode size p.0 → IsNode size n.0 → BeginsIn cells p.0 n.0 number old new
+  begun_places : (log : Log) (size : ℕ) (old new : List (Option (NodePlace D))) (p n : NodeNo) (number : ℕ) (shows : Shows cells log size old) (files : FilesShow cells log size old) → IsNode size p.0 → IsNode size n.0 → BeginsIn cells p.0 n.0 number old new
       → Shows cells log size new
   begun_places log size old new p n number shows files node_p node_n b =
       let at_p = some_at (Both cells files.source log (λ s. jobs_like old s size) p.0) (place_of old p.0) (record { node = Primary b.both.primary.parts; held = b.both.primary.held }) b.both.primary.there (both_of cells log size old shows files p.0 node_p) in
@@ -181,13 +181,13 @@ module _ {D : Type 0} (cells : D → Cells) where
 
   -- ---- in the terms of a call
 
-  pub can_begin : (r : Run) (ended : Bool) (size : ℕ) (log : Log) (places : List (Option (Place D))) (p n : NodeNo) → {left : Rest} → record { ended = ended; nodes = size; log = log; rest = left } ≡ r → r.ended ≡ false
+  pub can_begin : (r : Run) (ended : Bool) (size : ℕ) (log : Log) (places : List (Option (NodePlace D))) (p n : NodeNo) → {left : Rest} → record { ended = ended; nodes = size; log = log; rest = left } ≡ r → r.ended ≡ false
       → (ended ≡ false → Shows cells log size places × FilesShow cells log size places) → IsNode r.nodes p.0 → IsNode r.nodes n.0 → primary_of (printed r.log) ≡ Some p → IsReplica (printed r.log) n.0
       → version_of n.0 (printed r.log) < newest_version (printed r.log) → CanBegin p.0 n.0 places
   can_begin r ended size log places p n view running pair node_p node_n primary replica behind =
       can_begin_of r.log r.nodes places p n (was cells r ended size log places view running (λ e. (pair e).0)) (files_was cells r ended size log places view running (λ e. (pair e).1)) node_p node_n primary replica behind
 
-  pub can_begin_settling : (r : Run) (ended : Bool) (size : ℕ) (log : Log) (places : List (Option (Place D))) (at : At) (p n : NodeNo) (w : Version) → {left : Rest} → record { ended = ended; nodes = size; log = log; rest = left } ≡ r → r.ended ≡ false
+  pub can_begin_settling : (r : Run) (ended : Bool) (size : ℕ) (log : Log) (places : List (Option (NodePlace D))) (at : At) (p n : NodeNo) (w : Version) → {left : Rest} → record { ended = ended; nodes = size; log = log; rest = left } ≡ r → r.ended ≡ false
       → (ended ≡ false → Shows cells log size places × FilesShow cells log size places) → IsLegalPast size (printed log) → start_entry at (printed r.log) ≡ Some (Settling w) → WaitsFor r.nodes (printed r.log) at w.0 n → IsNode r.nodes p.0
       → primary_of (printed r.log) ≡ Some p → CanBegin p.0 n.0 places
   can_begin_settling r ended size log places at p n w view running pair legal started waits node_p primary =
@@ -200,7 +200,7 @@ module _ {D : Type 0} (cells : D → Cells) where
       can_begin r ended size log places p n view running pair node_p waits.node primary waits.replica (omega (arith, noted, late, low))
 
   -- the rule of a copy's start
-  pub may_copy : (r : Run) (ended : Bool) (size : ℕ) (log : Log) (places : List (Option (Place D))) (at : At) (p n : NodeNo) (v : Version) → {left : Rest} → record { ended = ended; nodes = size; log = log; rest = left } ≡ r → r.ended ≡ false
+  pub may_copy : (r : Run) (ended : Bool) (size : ℕ) (log : Log) (places : List (Option (NodePlace D))) (at : At) (p n : NodeNo) (v : Version) → {left : Rest} → record { ended = ended; nodes = size; log = log; rest = left } ≡ r → r.ended ≡ false
       → (ended ≡ false → Shows cells log size places × FilesShow cells log size places) → IsNode r.nodes n.0 → primary_of (printed r.log) ≡ Some p → IsReplica (printed r.log) n.0
       → v.0 ≡ newest_version (printed log) → IsOlder (newest_version (printed r.log)) (job_at n.0 r.log) → KeepsRule r.nodes (printed r.log) at (Copying n v)
   may_copy r ended size log places at p n v view running pair node primary replica is older =
@@ -220,7 +220,7 @@ module _ {D : Type 0} (cells : D → Cells) where
       some_none e = absurd (cc)
 
   -- a copy started, and its job began
-  pub copy_path : (r : Run) (ended : Bool) (b0 b1 b2 b3 : Sheet) (old new : List (Option (Place D))) (at : At) (p n : NodeNo) (v : Version) (number : ℕ)
+  pub copy_path : (r : Run) (ended : Bool) (b0 b1 b2 b3 : Sheet) (old new : List (Option (NodePlace D))) (at : At) (p n : NodeNo) (v : Version) (number : ℕ)
       → {left : Rest} → record { ended = ended; nodes = b0.nodes; log = b0.log; rest = left } ≡ r → r.ended ≡ false → (ended ≡ false → Shows cells b0.log b0.nodes old × FilesShow cells b0.log b0.nodes old)
       → b1.log ≡ b0.log → b1.nodes ≡ b0.nodes → b2.log ≡ shown at (Copying n v) ∷ b1.log → b2.nodes ≡ b1.nodes → IsLegalPast b1.nodes (printed b1.log) → AreInTurn (printed b1.log)
       → b3.log ≡ kept (JobBegun at.line n number (Some v) (Some at)) ∷ b2.log → b3.nodes ≡ b2.nodes
@@ -249,7 +249,7 @@ module _ {D : Type 0} (cells : D → Cells) where
       )
 
   -- the job of a settle began
-  pub settle_path : (r : Run) (ended : Bool) (b0 b1 b2 : Sheet) (old new : List (Option (Place D))) (at : At) (p n : NodeNo) (v w : Version) (number : ℕ)
+  pub settle_path : (r : Run) (ended : Bool) (b0 b1 b2 : Sheet) (old new : List (Option (NodePlace D))) (at : At) (p n : NodeNo) (v w : Version) (number : ℕ)
       → {left : Rest} → record { ended = ended; nodes = b0.nodes; log = b0.log; rest = left } ≡ r → r.ended ≡ false → (ended ≡ false → Shows cells b0.log b0.nodes old × FilesShow cells b0.log b0.nodes old)
       → b1.log ≡ b0.log → b1.nodes ≡ b0.nodes → b2.log ≡ kept (JobBegun at.line n number (Some v) (Some at)) ∷ b1.log → b2.nodes ≡ b1.nodes → IsLegalPast b0.nodes (printed b0.log)
       → FilesLast → v.0 ≡ newest_version (printed b0.log) → start_entry at (printed r.log) ≡ Some (Settling w) → WaitsFor r.nodes (printed r.log) at w.0 n → IsNode r.nodes p.0 → primary_of (printed r.log) ≡ Some p

@@ -16,12 +16,12 @@ use Rattle.seg_reader.proofs.StandingLaws.{one_segs}
 use Rattle.copy_state.specs.States.{meta_names}
 use Rattle.copy_job.specs.Jobs.{Job as Copy, reads_under}
 use Rattle.searcher_switch.specs.declared.open.Open.{Open}
-use Rattle.primary_state.specs.declared.parts.Parts.{Parts as PrimaryParts}
+use Rattle.primary_state.specs.declared.parts.PrimaryParts.{PrimaryParts}
 use Rattle.primary_state.specs.declared.states.Out.{Out}
 use Rattle.primary_state.specs.States.{out_of, is_out, states_without}
 use Rattle.replica_state.specs.declared.job.PointJob.{PointJob}
 use Rattle.replica_state.specs.Jobs.{running_point}
-use Rattle.replica_state.specs.declared.parts.Parts.{Parts as ReplicaParts}
+use Rattle.replica_state.specs.declared.parts.ReplicaParts.{ReplicaParts}
 use Rattle.replica_state.specs.Replica.{IsJobAbove}
 use Rattle.replica_state.specs.Sources.{CopiesFrom}
 use Rattle.searcher_switch.specs.Standing.{StandsForSome}
@@ -46,10 +46,10 @@ use Rattle.history_book.specs.declared.inner.Inner.TheVariants.{JobEnd}
 use Rattle.history_book.specs.Jobs.{job_at, last_job, StartsJob, LaneJobShows}
 use Rattle.history_book.specs.Turns.{AreInTurn}
 use Rattle.history_book.proofs.LineLaws.{without_some}
-use Rattle.cluster_nodes.specs.declared.held.Held.{Held}
+use Rattle.cluster_nodes.specs.declared.held.HeldTicket.{HeldTicket}
 use Rattle.cluster_nodes.specs.declared.nodes.Node.{Node}
 use Rattle.cluster_nodes.specs.declared.nodes.Node.TheVariants.{Primary, Replica, Down}
-use Rattle.cluster_nodes.specs.declared.nodes.Place.{Place}
+use Rattle.cluster_nodes.specs.declared.nodes.NodePlace.{NodePlace}
 use Rattle.cluster_state.specs.Run.{Rest, Run}
 use Rattle.cluster_nodes.specs.Places.{place_of, HasPrimary}
 use Rattle.cluster_state.specs.State.{StandForVersion, HoldsTickets, NodeShows, PlaceShows, Shows}
@@ -108,16 +108,16 @@ not_commit past start at n v (Some (Settling w)) is started = ap is_commit_line 
 not_commit past start at n v o is started = absurd started
 
 module _ {D : Type 0} (cells : D → Cells) where
-  there_primary : (log : Log) (size p : ℕ) (places : List (Option (Place D))) (shows : Shows cells log size places) (files : FilesShow cells log size places) (q : PrimaryParts D) (held : Vec Held Global) → IsNode size p
+  there_primary : (log : Log) (size p : ℕ) (places : List (Option (NodePlace D))) (shows : Shows cells log size places) (files : FilesShow cells log size places) (q : PrimaryParts D) (held : Vec HeldTicket Global) → IsNode size p
       → place_of places p ≡ Some (record { node = Primary q; held = held }) → PlaceShows cells log p (record { node = Primary q; held = held }) × PrimaryFiles files.source cells (printed log) (λ s. jobs_like places s size) q
   there_primary log size p places shows files q held node there =
       some_at (Both cells files.source log (λ s. jobs_like places s size) p) (place_of places p) (record { node = Primary q; held = held }) there (both_of cells log size places shows files p node)
 
   -- nothing is missing of the job
-  none_missing : (places : List (Option (Place D))) (n : ℕ) (r : ReplicaParts D) (held : Vec Held Global) (j : PointJob) → place_of places n ≡ Some (record { node = Replica r; held = held }) → running_point r.job ≡ Some j
+  none_missing : (places : List (Option (NodePlace D))) (n : ℕ) (r : ReplicaParts D) (held : Vec HeldTicket Global) (j : PointJob) → place_of places n ≡ Some (record { node = Replica r; held = held }) → running_point r.job ≡ Some j
       → HasNextFile (place_of places n) None → j.copy.missing ≡ []
   none_missing places n r held j there runs has =
-      let here : HasNextFile (Some (record { node = Replica r; held = held })) None = subst (λ (o : Option (Place D)). HasNextFile o None) there has in
+      let here : HasNextFile (Some (record { node = Replica r; held = held })) None = subst (λ (o : Option (NodePlace D)). HasNextFile o None) there has in
       subst (λ (o : Option PointJob). IsSomeAnd o (λ k. IsNextFile k None)) runs here
 
   -- ---- it can end
@@ -131,7 +131,7 @@ module _ {D : Type 0} (cells : D → Cells) where
       stand source (reads_of (cells r.dir)) j.copy j.infos (documents_at (printed log) job.version.0) copies missing above.state.files
       (subst (λ (v : ℕ). StandsFor source j.infos (documents_at (printed log) v)) shows.version shows.point.stands)
 
-  can_finish_of : (log : Log) (size : ℕ) (places : List (Option (Place D))) (p : NodeNo) (job : Job) (shows : Shows cells log size places) (files : FilesShow cells log size places) → SourcedStand → IsNode size p.0 → primary_of (printed log) ≡ Some p
+  can_finish_of : (log : Log) (size : ℕ) (places : List (Option (NodePlace D))) (p : NodeNo) (job : Job) (shows : Shows cells log size places) (files : FilesShow cells log size places) → SourcedStand → IsNode size p.0 → primary_of (printed log) ≡ Some p
       → IsNode size job.node.0 → IsReplica (printed log) job.node.0 → job_at job.node.0 log ≡ Some job → HasNextFile (place_of places job.node.0) None → CanFinish cells p.0 job.node.0 places
   can_finish_of log size places p job shows files stand node_p primary node replica is next = record {
     stand = record {
@@ -166,7 +166,7 @@ module _ {D : Type 0} (cells : D → Cells) where
   -- ---- it ended
 
   -- the node switched
-  switched : (size : ℕ) (log : Log) (old new : List (Option (Place D))) (p : NodeNo) (at : At) (n : NodeNo) (v : Version) (x y : Place D) → MovesBoth p.0 n.0 x y old new → IsLegalPast size (printed log) → AreInTurn (printed log)
+  switched : (size : ℕ) (log : Log) (old new : List (Option (NodePlace D))) (p : NodeNo) (at : At) (n : NodeNo) (v : Version) (x y : NodePlace D) → MovesBoth p.0 n.0 x y old new → IsLegalPast size (printed log) → AreInTurn (printed log)
       → KeepsRule size (printed log) at (Switched n v) → start_entry at (printed log) ≢ Some Publishing → (n.0 == p.0) ≡ false → PlaceShows cells log p.0 x → PlaceShows cells (shown at (Switched n v) ∷ log) n.0 y → Shows cells log size old
       → Shows cells (shown at (Switched n v) ∷ log) size new
   switched size log old new p at n v x y moves legal turns rule start apart first second shows = record {
@@ -176,19 +176,19 @@ module _ {D : Type 0} (cells : D → Cells) where
     handed = λ a none. shows.handed a none;
   }
     where
-      still : (m : ℕ) (z : Place D) → (n.0 == m) ≡ false → PlaceShows cells log m z → PlaceShows cells (shown at (Switched n v) ∷ log) m z
+      still : (m : ℕ) (z : NodePlace D) → (n.0 == m) ≡ false → PlaceShows cells log m z → PlaceShows cells (shown at (Switched n v) ∷ log) m z
       still m z other has = place_same cells log (shown at (Switched n v) ∷ log) m z
           (same size m (printed log) at (Switched n v) legal turns rule (λ here. not_flying size (printed log) at legal turns start) other) (fewer (printed log) at (Switched n v) m refl) (λ a h is. is) has
 
   -- the copy has its reply
-  copied : (size : ℕ) (log : Log) (places : List (Option (Place D))) (at : At) (n : NodeNo) (v : Version) → IsLegalPast size (printed log) → AreInTurn (printed log) → KeepsRule size (printed log) at (Copied n v)
+  copied : (size : ℕ) (log : Log) (places : List (Option (NodePlace D))) (at : At) (n : NodeNo) (v : Version) → IsLegalPast size (printed log) → AreInTurn (printed log) → KeepsRule size (printed log) at (Copied n v)
       → start_entry at (printed log) ≢ Some Publishing → Shows cells log size places → Shows cells (shown at (Copied n v) ∷ log) size places
   copied size log places at n v legal turns rule start shows =
       shows_still cells size log (shown at (Copied n v) ∷ log) places
       (λ m. same size m (printed log) at (Copied n v) legal turns rule (λ here. not_flying size (printed log) at legal turns start) refl) (λ m. fewer (printed log) at (Copied n v) m refl) (λ a h is. is) (λ a none. shows.handed a none) shows
 
   -- the node that switched
-  switched_place : (size : ℕ) (source : Name → Content) (log : Log) (job : Job) (j : PointJob) (p q : PrimaryParts D) (r s : ReplicaParts D) (held : Vec Held Global) → SourcedStand → IsLegalPast size (printed log)
+  switched_place : (size : ℕ) (source : Name → Content) (log : Log) (job : Job) (j : PointJob) (p q : PrimaryParts D) (r s : ReplicaParts D) (held : Vec HeldTicket Global) → SourcedStand → IsLegalPast size (printed log)
       → KeepsRule size (printed log) job.at (Switched job.node job.version) → r.job ≡ Some j → CopyShows source log job.node.0 job j → j.copy.missing ≡ [] → FinishesAt cells j p q r s → ReplicaFiles source cells log job.node.0 r
       → PlaceShows cells log job.node.0 (record { node = Replica r; held = held }) → PlaceShows cells (shown job.at (Switched job.node job.version) ∷ log) job.node.0 (record { node = Replica s; held = held })
   switched_place size source log job j p q r s held stand legal rule runs shows missing f files has = record {
@@ -229,7 +229,7 @@ module _ {D : Type 0} (cells : D → Cells) where
       segments = subst (λ (ss : List Shown). AreSegmentsOf docs ss) (one_segs (reads_of (cells s.dir)) s.infos.segs stands.segs s.searchers.point.readers stands.stands.each f.whole.point.readers) stands.stands.stand
 
   -- the files of all nodes, once no job runs at the node and no copy of the newest version to it is in flight
-  files_ended : (size : ℕ) (log now : Log) (old new : List (Option (Place D))) (p : NodeNo) (job : Job) → FilesLast → Grows (printed log) (printed now) → CarriesNoMore log now → (shows : Shows cells log size old) (files : FilesShow cells log size old) → FinishesIn cells p.0 job.node.0 old new → IsNode size p.0 → primary_of (printed log) ≡ Some p
+  files_ended : (size : ℕ) (log now : Log) (old new : List (Option (NodePlace D))) (p : NodeNo) (job : Job) → FilesLast → Grows (printed log) (printed now) → CarriesNoMore log now → (shows : Shows cells log size old) (files : FilesShow cells log size old) → FinishesIn cells p.0 job.node.0 old new → IsNode size p.0 → primary_of (printed log) ≡ Some p
       → IsNode size job.node.0 → job_at job.node.0 log ≡ Some job
       → ((m : ℕ) → (job.node.0 == m) ≡ false → is_at (primary_of (printed log)) m ≡ false → SameJob log now m) → ((m : ℕ) → CommitsStay (printed log) (printed now) m)
       → job_at job.node.0 now ≡ None → ((a : At) → copy_in_flight job.node.0 (newest_version (printed now)) (printed now) ≡ Some a → ⊥) → FilesShow cells now size new
@@ -262,10 +262,10 @@ module _ {D : Type 0} (cells : D → Cells) where
       s : ReplicaParts D
       s = b.replica
 
-      x : Place D
+      x : NodePlace D
       x = record { node = Primary b.primary; held = b.both.primary.held }
 
-      y : Place D
+      y : NodePlace D
       y = record { node = Replica s; held = b.both.replica.held }
 
       jobs : Out → ℕ
@@ -299,8 +299,8 @@ module _ {D : Type 0} (cells : D → Cells) where
       low : (t : Out) → count t ≤ states_like t b.primary.states
       low t =
           let moved = jobs_moved old new t n size node.0 node.1 apart_wants in
-          let before : one_like t (want_at (place_of old n)) ≡ one_like t (Some (out_of here.point.copy.want)) = ap (λ (o : Option (Place D)). one_like t (want_at o)) b.both.replica.there ∙ ap (one_like t) here.want in
-          let after : one_like t (want_at (place_of new n)) ≡ 0 = ap (λ (o : Option (Place D)). one_like t (want_at o)) (b.moves.there n ∙ ap (λ (c : Bool). if c then Some y else if p.0 == n then Some x else place_of old n) (eq-eqb n n refl))
+          let before : one_like t (want_at (place_of old n)) ≡ one_like t (Some (out_of here.point.copy.want)) = ap (λ (o : Option (NodePlace D)). one_like t (want_at o)) b.both.replica.there ∙ ap (one_like t) here.want in
+          let after : one_like t (want_at (place_of new n)) ≡ 0 = ap (λ (o : Option (NodePlace D)). one_like t (want_at o)) (b.moves.there n ∙ ap (λ (c : Bool). if c then Some y else if p.0 == n then Some x else place_of old n) (eq-eqb n n refl))
           ∙ ap (λ (o : Option PointJob). one_like t (want_of o)) f.job in
           let out : is_out (out_of here.point.copy.want) b.both.primary.parts.states ≡ true = subst (λ (o : Option Out). IfSome o (λ w. is_out w b.both.primary.parts.states ≡ true)) here.want
           (job_out cells log size n old b.both.primary.parts r b.both.replica.held files.source node b.both.replica.there at_p.1) in
@@ -326,7 +326,7 @@ module _ {D : Type 0} (cells : D → Cells) where
   flies_here : (log : Log) (job : Job) (r : ReplicaParts D) (source : Name → Content) (a : At) → job_at job.node.0 log ≡ Some job → ReplicaFiles source cells log job.node.0 r → copy_in_flight job.node.0 (newest_version (printed log)) (printed log) ≡ Some a → job.at ≡ a
   flies_here log job r source a is files flies = (subst (λ (o : Option Job). IsSomeAnd o (IsJobFor a (newest_version (printed log)))) is (files.flight a flies)).0
 
-  pub ending : (size : ℕ) (log : Log) (old new : List (Option (Place D))) (p : NodeNo) (job : Job) (o : Option Event) → SourcedStand → FilesLast → start_entry job.at (printed log) ≡ o → StartsJob (before_start job.at (printed log)) job.node.0 job.version.0 o
+  pub ending : (size : ℕ) (log : Log) (old new : List (Option (NodePlace D))) (p : NodeNo) (job : Job) (o : Option Event) → SourcedStand → FilesLast → start_entry job.at (printed log) ≡ o → StartsJob (before_start job.at (printed log)) job.node.0 job.version.0 o
       → IsLegalPast size (printed (ended_log job o log)) → AreInTurn (printed (ended_log job o log)) → IsNode size p.0 → primary_of (printed log) ≡ Some p → (p.0 == job.node.0) ≡ false → IsNode size job.node.0 → job_at job.node.0 log ≡ Some job
       → HasNextFile (place_of old job.node.0) None → FinishesIn cells p.0 job.node.0 old new → Shows cells log size old → FilesShow cells log size old → Shows cells (ended_log job o log) size new × FilesShow cells (ended_log job o log) size new
   ending size log old new p job o stand lasting start started legal turns node_p primary apart node is next b shows files = by o start started legal turns
@@ -420,7 +420,7 @@ module _ {D : Type 0} (cells : D → Cells) where
       let lane_now : LaneJobShows r.nodes (printed r.log) row = subst (λ (x : Log × ℕ). LaneJobShows x.1 (printed x.0) row) (λ i. (same_log i, same_size i)) lane in
       record { lane = lane_now; is = runs_at r.nodes r.log row runs lane_now }
 
-  pub can_finish : (r : Run) (ended : Bool) (size : ℕ) (log : Log) (places : List (Option (Place D))) (p : NodeNo) (row : JobRow) → {left : Rest} → record { ended = ended; nodes = size; log = log; rest = left } ≡ r → r.ended ≡ false
+  pub can_finish : (r : Run) (ended : Bool) (size : ℕ) (log : Log) (places : List (Option (NodePlace D))) (p : NodeNo) (row : JobRow) → {left : Rest} → record { ended = ended; nodes = size; log = log; rest = left } ≡ r → r.ended ≡ false
       → (ended ≡ false → Shows cells log size places × FilesShow cells log size places) → SourcedStand → IsNode r.nodes p.0 → primary_of (printed r.log) ≡ Some p → JobRuns r.log row → LaneJobShows size (printed log) row → IsReplica (printed log) row.job.node.0
       → HasNextFile (place_of places row.job.node.0) None → CanFinish cells p.0 row.job.node.0 places
   can_finish r ended size log places p row view running pair stand node primary runs lane replica next =
@@ -429,7 +429,7 @@ module _ {D : Type 0} (cells : D → Cells) where
       (subst (λ (l : Log). IsReplica (printed l) row.job.node.0) (ap (λ (x : Run). x.log) view) replica) h.is next
 
   -- what the log shows of the job, once there is room
-  pub copy_here : (r : Run) (ended : Bool) (b0 b1 : Sheet) (places : List (Option (Place D))) (row : JobRow) → {left : Rest} → record { ended = ended; nodes = b0.nodes; log = b0.log; rest = left } ≡ r → r.ended ≡ false
+  pub copy_here : (r : Run) (ended : Bool) (b0 b1 : Sheet) (places : List (Option (NodePlace D))) (row : JobRow) → {left : Rest} → record { ended = ended; nodes = b0.nodes; log = b0.log; rest = left } ≡ r → r.ended ≡ false
       → (ended ≡ false → Shows cells b0.log b0.nodes places × FilesShow cells b0.log b0.nodes places) → b1.log ≡ b0.log → JobRuns r.log row → LaneJobShows b0.nodes (printed b0.log) row → IsReplica (printed b0.log) row.job.node.0
       → (version_of row.job.node.0 (printed b1.log) < newest_version (before_start row.job.at (printed b1.log))) × (is_passed row.job.node.0 row.job.version.0 (printed b1.log) ≡ false)
   copy_here r ended b0 b1 places row view running pair same_log runs lane replica =
@@ -441,7 +441,7 @@ module _ {D : Type 0} (cells : D → Cells) where
       let job = job_here cells f.source r.log row.job.node.0 row.job here.at.parts h.is here.files in
       subst (λ (l : Log). (version_of row.job.node.0 (printed l) < newest_version (before_start row.job.at (printed l))) × (is_passed row.job.node.0 row.job.version.0 (printed l) ≡ false)) (sym log) (job.shows.behind, job.shows.latest)
 
-  pub finish_path : (r : Run) (ended : Bool) (b0 b1 b2 : Sheet) (old new : List (Option (Place D))) (p : NodeNo) (row : JobRow) → {left : Rest} → record { ended = ended; nodes = b0.nodes; log = b0.log; rest = left } ≡ r → r.ended ≡ false
+  pub finish_path : (r : Run) (ended : Bool) (b0 b1 b2 : Sheet) (old new : List (Option (NodePlace D))) (p : NodeNo) (row : JobRow) → {left : Rest} → record { ended = ended; nodes = b0.nodes; log = b0.log; rest = left } ≡ r → r.ended ≡ false
       → (ended ≡ false → Shows cells b0.log b0.nodes old × FilesShow cells b0.log b0.nodes old) → b1.log ≡ b0.log → b1.nodes ≡ b0.nodes
       → b2.log ≡ ended_log row.job (start_entry row.job.at (printed b1.log)) b1.log → b2.nodes ≡ b1.nodes → IsLegalPast b2.nodes (printed b2.log) → AreInTurn (printed b2.log)
       → SourcedStand → FilesLast → IsNode r.nodes p.0 → primary_of (printed r.log) ≡ Some p → JobRuns r.log row → LaneJobShows b0.nodes (printed b0.log) row → IsReplica (printed b0.log) row.job.node.0

@@ -9,16 +9,16 @@ use Rattle.codec_frame.specs.Checking.{HasFooter}
 use Rattle.replica_state.specs.declared.job.PointJob.{PointJob}
 use Rattle.replica_state.specs.Replica.{IsJobAbove}
 use Rattle.copy_state.specs.Meta.{IsMetaOf}
-use Rattle.primary_state.specs.declared.parts.Parts.{Parts as PrimaryParts}
+use Rattle.primary_state.specs.declared.parts.PrimaryParts.{PrimaryParts}
 use Rattle.history_rules.specs.Nodes.{IsNode, IsReplica, is_at, primary_of}
 use Rattle.history_tables.specs.declared.jobs.JobRow.{JobRow}
 use Rattle.history_book.specs.Log.{Log, printed, kept}
 use Rattle.merge_tasks.specs.Merging.{Sheet}
 use Rattle.history_book.specs.declared.inner.Inner.TheVariants.{FileOut}
 use Rattle.history_book.specs.Jobs.{job_at, LaneJobShows}
-use Rattle.cluster_nodes.specs.declared.held.Held.{Held}
+use Rattle.cluster_nodes.specs.declared.held.HeldTicket.{HeldTicket}
 use Rattle.cluster_nodes.specs.declared.nodes.Node.TheVariants.{Primary}
-use Rattle.cluster_nodes.specs.declared.nodes.Place.{Place}
+use Rattle.cluster_nodes.specs.declared.nodes.NodePlace.{NodePlace}
 use Rattle.cluster_state.specs.Run.{JobFiles, Rest, Run, files_at}
 use Rattle.cluster_nodes.specs.Places.{place_of, IsSlot, HasPrimary}
 use Rattle.cluster_state.specs.State.{Shows}
@@ -37,12 +37,12 @@ use Rattle.cluster_copies.proofs.Handing.{has_job, next_is, IsFileToCopy, file_t
 
 module _ {D : Type 0} (cells : D → Cells) where
   -- the replica of a job that runs, with the job
-  pub record RunsHere (source : Name → Content) (log : Log) (row : JobRow) (places : List (Option (Place D))) : Type 0 where
+  pub record RunsHere (source : Name → Content) (log : Log) (row : JobRow) (places : List (Option (NodePlace D))) : Type 0 where
     pub here : ReplicaHere cells source log row.job.node.0 places
     pub job : JobHere cells source log row.job.node.0 row.job here.at.parts
     pub is : job_at row.job.node.0 log ≡ Some row.job
 
-  pub runs_here : (log : Log) (size : ℕ) (places : List (Option (Place D))) (row : JobRow) (shows : Shows cells log size places) (files : FilesShow cells log size places) → JobRuns log row → LaneJobShows size (printed log) row → IsReplica (printed log) row.job.node.0
+  pub runs_here : (log : Log) (size : ℕ) (places : List (Option (NodePlace D))) (row : JobRow) (shows : Shows cells log size places) (files : FilesShow cells log size places) → JobRuns log row → LaneJobShows size (printed log) row → IsReplica (printed log) row.job.node.0
       → RunsHere files.source log row places
   runs_here log size places row shows files runs lane replica =
       let is = runs_at size log row runs lane in
@@ -52,8 +52,8 @@ module _ {D : Type 0} (cells : D → Cells) where
   -- ---- at the log
 
   -- the file that is next, at the primary that is there
-  to_copy : (log : Log) (size : ℕ) (places : List (Option (Place D))) (row : JobRow) (p : NodeNo) (name : Name) (meta : FileMetaData) (shows : Shows cells log size places) (files : FilesShow cells log size places) → FilesLast → JobRuns log row → LaneJobShows size (printed log) row
-      → IsReplica (printed log) row.job.node.0 → IsNode size p.0 → HasNextFile (place_of places row.job.node.0) (Some (name, meta)) → (q : PrimaryParts D) (held : Vec Held Global) → place_of places p.0 ≡ Some (record { node = Primary q; held = held })
+  to_copy : (log : Log) (size : ℕ) (places : List (Option (NodePlace D))) (row : JobRow) (p : NodeNo) (name : Name) (meta : FileMetaData) (shows : Shows cells log size places) (files : FilesShow cells log size places) → FilesLast → JobRuns log row → LaneJobShows size (printed log) row
+      → IsReplica (printed log) row.job.node.0 → IsNode size p.0 → HasNextFile (place_of places row.job.node.0) (Some (name, meta)) → (q : PrimaryParts D) (held : Vec HeldTicket Global) → place_of places p.0 ≡ Some (record { node = Primary q; held = held })
       → IsFileToCopy cells files.source q name meta
   to_copy log size places row p name meta shows files lasting runs lane replica node_p next q held there =
       let t = runs_here log size places row shows files runs lane replica in
@@ -62,7 +62,7 @@ module _ {D : Type 0} (cells : D → Cells) where
       (job_out cells log size row.job.node.0 places q t.here.at.parts t.here.at.held files.source lane.node t.here.at.there at_p.1) t.job.shows
       (next_is places row.job.node.0 t.here.at.parts t.here.at.held t.job.point (Some (name, meta)) t.here.at.there t.job.going next)
 
-  read_facts : (log : Log) (size : ℕ) (places new : List (Option (Place D))) (row : JobRow) (p : NodeNo) (name : Name) (meta : FileMetaData) (bytes : List ℕ) (shows : Shows cells log size places) (files : FilesShow cells log size places) → FilesLast → JobRuns log row
+  read_facts : (log : Log) (size : ℕ) (places new : List (Option (NodePlace D))) (row : JobRow) (p : NodeNo) (name : Name) (meta : FileMetaData) (bytes : List ℕ) (shows : Shows cells log size places) (files : FilesShow cells log size places) → FilesLast → JobRuns log row
       → LaneJobShows size (printed log) row → IsReplica (printed log) row.job.node.0 → IsNode size p.0 → HasNextFile (place_of places row.job.node.0) (Some (name, meta)) → ReadsIn cells p.0 name bytes places new → (files.source name ≡ Some bytes) × IsMetaOf bytes meta
   read_facts log size places new row p name meta bytes shows files lasting runs lane replica node_p next b =
       let f = to_copy log size places row p name meta shows files lasting runs lane replica node_p next b.at.parts b.at.held b.at.there in
@@ -74,7 +74,7 @@ module _ {D : Type 0} (cells : D → Cells) where
 
   -- ---- in the terms of a call
 
-  module _ (r : Run) (ended : Bool) (b0 : Sheet) (places : List (Option (Place D))) (row : JobRow) {left : Rest} (view : record { ended = ended; nodes = b0.nodes; log = b0.log; rest = left } ≡ r) (running : r.ended ≡ false)
+  module _ (r : Run) (ended : Bool) (b0 : Sheet) (places : List (Option (NodePlace D))) (row : JobRow) {left : Rest} (view : record { ended = ended; nodes = b0.nodes; log = b0.log; rest = left } ≡ r) (running : r.ended ≡ false)
       (pair : ended ≡ false → Shows cells b0.log b0.nodes places × FilesShow cells b0.log b0.nodes places) (runs : JobRuns r.log row) (lane : LaneJobShows b0.nodes (printed b0.log) row) (replica : IsReplica (printed b0.log) row.job.node.0) where
     same_log : b0.log ≡ r.log
     same_log = ap (λ (x : Run). x.log) view
@@ -121,12 +121,12 @@ module _ {D : Type 0} (cells : D → Cells) where
         (subst (λ (l : List Name). IsFirstOf l file.0) (sym here.1) refl)
 
     -- what jobs lack and have is as before
-    pub same_files : (now : Run) (new : List (Option (Place D))) (p : NodeNo) (name : Name) (bytes : List ℕ) → left.jobs ≡ jobs_in places → now.rest.jobs ≡ jobs_in new → ReadsIn cells p.0 name bytes places new
+    pub same_files : (now : Run) (new : List (Option (NodePlace D))) (p : NodeNo) (name : Name) (bytes : List ℕ) → left.jobs ≡ jobs_in places → now.rest.jobs ≡ jobs_in new → ReadsIn cells p.0 name bytes places new
         → files_at row.job.node.0 now ≡ files_at row.job.node.0 r
     same_files now new p name bytes is after b =
         files_are row.job.node.0 now new after ∙ (by (p.0 == row.job.node.0) refl ∙ sym (files_are row.job.node.0 r places (sym (ap (λ (x : Run). x.rest.jobs) view) ∙ is)))
       where
-        x : Place D
+        x : NodePlace D
         x = record { node = Primary b.primary; held = b.at.held }
 
         by : (t : Bool) → (p.0 == row.job.node.0) ≡ t → place_files (place_of new row.job.node.0) ≡ place_files (place_of places row.job.node.0)
@@ -135,10 +135,10 @@ module _ {D : Type 0} (cells : D → Cells) where
             ∙ sym (ap (λ (k : ℕ). place_files (place_of places k)) (sym (eqb-true p.0 row.job.node.0 here)) ∙ ap place_files b.at.there)
         by false away = ap place_files (b.moves.there row.job.node.0 ∙ ap (λ (u : Bool). if u then Some x else place_of places row.job.node.0) away)
 
-    pub hand_meta : (new : List (Option (Place D))) (p : NodeNo) (name : Name) (meta : FileMetaData) (bytes : List ℕ) → FilesLast → IsNode r.nodes p.0 → HasNextFile (place_of places row.job.node.0) (Some (name, meta)) → ReadsIn cells p.0 name bytes places new → IsMetaOf bytes meta
+    pub hand_meta : (new : List (Option (NodePlace D))) (p : NodeNo) (name : Name) (meta : FileMetaData) (bytes : List ℕ) → FilesLast → IsNode r.nodes p.0 → HasNextFile (place_of places row.job.node.0) (Some (name, meta)) → ReadsIn cells p.0 name bytes places new → IsMetaOf bytes meta
     hand_meta new p name meta bytes lasting node_p next b = (read_facts r.log r.nodes places new row p name meta bytes call_shows call_files lasting runs call_lane call_replica node_p next b).1
 
-    pub hand_footer : (new : List (Option (Place D))) (p : NodeNo) (name : Name) (meta : FileMetaData) (bytes : List ℕ) → FilesLast → IsNode r.nodes p.0 → HasNextFile (place_of places row.job.node.0) (Some (name, meta)) → ReadsIn cells p.0 name bytes places new
+    pub hand_footer : (new : List (Option (NodePlace D))) (p : NodeNo) (name : Name) (meta : FileMetaData) (bytes : List ℕ) → FilesLast → IsNode r.nodes p.0 → HasNextFile (place_of places row.job.node.0) (Some (name, meta)) → ReadsIn cells p.0 name bytes places new
         → AreBytes bytes → HasFooter bytes
     hand_footer new p name meta bytes lasting node_p next b fits =
         let is = (read_facts r.log r.nodes places new row p name meta bytes call_shows call_files lasting runs call_lane call_replica node_p next b).0 in
@@ -147,7 +147,7 @@ module _ {D : Type 0} (cells : D → Cells) where
         file_footer cells call_files.source r.log row.job.node.0 t.here.at.parts.searchers.point.version.0 row.job t.job.point name meta bytes above t.job.shows
         (next_is places row.job.node.0 t.here.at.parts t.here.at.held t.job.point (Some (name, meta)) t.here.at.there t.job.going next) is fits
 
-    pub hand_path : (b1 b2 : Sheet) (new : List (Option (Place D))) (p : NodeNo) (name : Name) (meta : FileMetaData) (bytes copy : List ℕ) → FilesLast → IsNode r.nodes p.0 → primary_of (printed r.log) ≡ Some p → HasNextFile (place_of places row.job.node.0) (Some (name, meta))
+    pub hand_path : (b1 b2 : Sheet) (new : List (Option (NodePlace D))) (p : NodeNo) (name : Name) (meta : FileMetaData) (bytes copy : List ℕ) → FilesLast → IsNode r.nodes p.0 → primary_of (printed r.log) ≡ Some p → HasNextFile (place_of places row.job.node.0) (Some (name, meta))
         → ReadsIn cells p.0 name bytes places new → copy ≡ bytes → b1.log ≡ b0.log → b1.nodes ≡ b0.nodes → b2.log ≡ kept (FileOut row.job.at.line row.job.node row.job.number name copy (Some row.job.at)) ∷ b1.log → b2.nodes ≡ b1.nodes
         → Shows cells b2.log b2.nodes new × FilesShow cells b2.log b2.nodes new
     hand_path b1 b2 new p name meta bytes copy lasting node_p primary next b shared e1 n1 e2 n2 =

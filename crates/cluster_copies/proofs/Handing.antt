@@ -21,14 +21,14 @@ use Rattle.history_rules.specs.Points.{documents_at}
 use Rattle.copy_state.specs.States.{meta_names}
 use Rattle.commit_steps.proofs.Safe.{contains_of}
 use Rattle.searcher_switch.specs.Searching.{searcher_names}
-use Rattle.primary_state.specs.declared.parts.Parts.{Parts as PrimaryParts}
+use Rattle.primary_state.specs.declared.parts.PrimaryParts.{PrimaryParts}
 use Rattle.primary_state.specs.declared.states.Out.{Out}
 use Rattle.primary_state.specs.Primary.{IsPrimary, primary_names, rest_names}
 use Rattle.primary_state.specs.Merges.{merge_names}
 use Rattle.replica_opening.specs.Known.{HasMeta}
 use Rattle.replica_state.specs.declared.job.PointJob.{PointJob}
 use Rattle.replica_state.specs.Jobs.{running_point}
-use Rattle.replica_state.specs.declared.parts.Parts.{Parts as ReplicaParts}
+use Rattle.replica_state.specs.declared.parts.ReplicaParts.{ReplicaParts}
 use Rattle.replica_state.specs.Replica.{IsJobAbove}
 use Rattle.history_rules.specs.Nodes.{IsNode, is_at, primary_of, newest_version}
 use Rattle.history_tables.specs.declared.jobs.Job.{Job}
@@ -39,10 +39,10 @@ use Rattle.history_book.specs.Log.{Log, printed, kept}
 use Rattle.history_book.specs.declared.inner.Inner.{Inner}
 use Rattle.history_book.specs.declared.inner.Inner.TheVariants.{FileOut}
 use Rattle.history_book.specs.Jobs.{last_job, job_at}
-use Rattle.cluster_nodes.specs.declared.held.Held.{Held}
+use Rattle.cluster_nodes.specs.declared.held.HeldTicket.{HeldTicket}
 use Rattle.cluster_nodes.specs.declared.nodes.Node.{Node}
 use Rattle.cluster_nodes.specs.declared.nodes.Node.TheVariants.{Primary, Replica, Down}
-use Rattle.cluster_nodes.specs.declared.nodes.Place.{Place}
+use Rattle.cluster_nodes.specs.declared.nodes.NodePlace.{NodePlace}
 use Rattle.cluster_nodes.specs.Places.{place_of}
 use Rattle.cluster_state.specs.State.{NodeShows, Shows}
 use Rattle.cluster_state.specs.FilesOut.{is_job, file_out}
@@ -67,17 +67,17 @@ use Rattle.cluster_state.proofs.Drawn.{grows_none}
 -- ---- the next file
 
 module _ {D : Type 0} where
-  pub has_job : (places : List (Option (Place D))) (n : ℕ) (r : ReplicaParts D) (held : Vec Held Global) (j : PointJob) → place_of places n ≡ Some (record { node = Replica r; held = held }) → running_point r.job ≡ Some j → HasJob (place_of places n)
+  pub has_job : (places : List (Option (NodePlace D))) (n : ℕ) (r : ReplicaParts D) (held : Vec HeldTicket Global) (j : PointJob) → place_of places n ≡ Some (record { node = Replica r; held = held }) → running_point r.job ≡ Some j → HasJob (place_of places n)
   has_job places n r held j there runs = subst HasJob (sym there) (some (running_point r.job) runs)
     where
       some : (o : Option PointJob) → o ≡ Some j → is_some o ≡ true
       some o is = ap is_some is
 
   -- the next file is one of this job
-  pub next_is : (places : List (Option (Place D))) (n : ℕ) (r : ReplicaParts D) (held : Vec Held Global) (j : PointJob) (file : Option (Name × FileMetaData)) → place_of places n ≡ Some (record { node = Replica r; held = held }) → running_point r.job ≡ Some j
+  pub next_is : (places : List (Option (NodePlace D))) (n : ℕ) (r : ReplicaParts D) (held : Vec HeldTicket Global) (j : PointJob) (file : Option (Name × FileMetaData)) → place_of places n ≡ Some (record { node = Replica r; held = held }) → running_point r.job ≡ Some j
       → HasNextFile (place_of places n) file → IsNextFile j file
   next_is places n r held j file there runs has =
-      let here : HasNextFile (Some (record { node = Replica r; held = held })) file = subst (λ (o : Option (Place D)). HasNextFile o file) there has in
+      let here : HasNextFile (Some (record { node = Replica r; held = held })) file = subst (λ (o : Option (NodePlace D)). HasNextFile o file) there has in
       subst (λ (o : Option PointJob). IsSomeAnd o (λ k. IsNextFile k file)) runs here
 
 module _ {D : Type 0} (cells : D → Cells) where
@@ -179,7 +179,7 @@ module _ {D : Type 0} (cells : D → Cells) where
       shows (Some k) None e s = s
       shows (Some k) (Some j) e s = let same_job : job ≡ k = cc in subst (λ (x : Job). CopyShows source now n.0 x j) same_job (step j (subst (λ (x : Job). CopyShows source log n.0 x j) (sym same_job) s))
 
-  pub file_handed : (size : ℕ) (log : Log) (old new : List (Option (Place D))) (p n : NodeNo) (job : Job) (line : LineNo) (name : Name) (bytes : List ℕ) (files : FilesShow cells log size old) → IsNode size p.0 → primary_of (printed log) ≡ Some p → is_at (primary_of (printed log)) n.0 ≡ false
+  pub file_handed : (size : ℕ) (log : Log) (old new : List (Option (NodePlace D))) (p n : NodeNo) (job : Job) (line : LineNo) (name : Name) (bytes : List ℕ) (files : FilesShow cells log size old) → IsNode size p.0 → primary_of (printed log) ≡ Some p → is_at (primary_of (printed log)) n.0 ≡ false
       → job_at n.0 log ≡ Some job → files.source name ≡ Some bytes → ReadsIn cells p.0 name bytes old new → Shows cells log size old
       → Shows cells (kept (FileOut line n job.number name bytes (Some job.at)) ∷ log) size new × FilesShow cells (kept (FileOut line n job.number name bytes (Some job.at)) ∷ log) size new
   file_handed size log old new p n job line name bytes files node primary other is reads b shows = (
@@ -204,7 +204,7 @@ module _ {D : Type 0} (cells : D → Cells) where
       now : Log
       now = kept i ∷ log
 
-      x : Place D
+      x : NodePlace D
       x = record { node = Primary b.primary; held = b.at.held }
 
       jobs : Out → ℕ

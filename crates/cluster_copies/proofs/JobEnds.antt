@@ -5,7 +5,7 @@ use Rattle.history_rules.specs.Nodes.{Past, primary_of}
 use Rattle.history_rules.specs.Lines.{start_entry, SourceSurvives}
 use Rattle.history_rules.specs.Legal.{IsLegalPast}
 use Rattle.history_tables.specs.declared.jobs.JobRow.{JobRow}
-use Rattle.history_tables.specs.declared.lines.Begun.{Begun}
+use Rattle.history_tables.specs.declared.lines.BegunLine.{BegunLine}
 use Rattle.history_tables.specs.declared.lines.Start.{Start}
 use Rattle.history_tables.specs.Begins.{event_of, open_line}
 use Rattle.history_book.specs.Log.{Log, printed}
@@ -23,7 +23,7 @@ source_on size past row legal s source none =
     ran (sym (reigns_on size row.job.at past legal ran source.source).primary ∙ none)
 
 -- how an open line started
-pub start_is : (at : At) (past : Past) (b : Begun) (s : Start) → open_line at past ≡ Some b → b.start ≡ s → start_entry at past ≡ Some (event_of s)
+pub start_is : (at : At) (past : Past) (b : BegunLine) (s : Start) → open_line at past ≡ Some b → b.start ≡ s → start_entry at past ≡ Some (event_of s)
 start_is at past b s is same = (open_started at past b is).entry ∙ ap (λ (x : Start). Some (event_of x)) same
 
 -- the same in the terms of a call

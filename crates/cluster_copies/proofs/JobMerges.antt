@@ -3,16 +3,16 @@ use Rattle.std.proofs.Common.{◌≡◌, ◌≤◌, ◌+◌, ◌++◌, ◌∷◌
 use Rattle.std.proofs.lemmas.Bool.{eq-eqb}
 use Rattle.nrt_base.specs.declared.numbers.NodeNo.{NodeNo}
 use Rattle.disk_model.specs.Disk.{Cells}
-use Rattle.primary_state.specs.declared.parts.Parts.{Parts as PrimaryParts}
+use Rattle.primary_state.specs.declared.parts.PrimaryParts.{PrimaryParts}
 use Rattle.primary_state.specs.declared.states.Out.{Out}
 use Rattle.primary_state.specs.States.{is_out, out_of}
 use Rattle.replica_state.specs.declared.merges.MergeCopies.{MergeCopies}
-use Rattle.replica_state.specs.declared.parts.Parts.{Parts as ReplicaParts}
+use Rattle.replica_state.specs.declared.parts.ReplicaParts.{ReplicaParts}
 use Rattle.history_rules.specs.Nodes.{IsNode, is_at, primary_of}
 use Rattle.history_book.specs.Log.{Log, printed}
 use Rattle.merge_tasks.specs.Merging.{Sheet}
 use Rattle.cluster_nodes.specs.declared.nodes.Node.TheVariants.{Primary, Replica}
-use Rattle.cluster_nodes.specs.declared.nodes.Place.{Place}
+use Rattle.cluster_nodes.specs.declared.nodes.NodePlace.{NodePlace}
 use Rattle.cluster_nodes.specs.Places.{place_of}
 use Rattle.cluster_nodes.specs.Outs.{want_of, states_like, jobs_like}
 use Rattle.cluster_nodes.specs.JobChanges.{given_back}
@@ -31,7 +31,7 @@ use Rattle.cluster_state.proofs.MergingPaths.{both_keep, begun_runs}
 use Rattle.cluster_copies.proofs.Beginning.{begun_counted}
 
 module _ {D : Type 0} (cells : D → Cells) where
-  pub begun_keeps : (size : ℕ) (log : Log) (old new : List (Option (Place D))) (p n : NodeNo) (number : ℕ) → IsNode size p.0 → IsNode size n.0 → primary_of (printed log) ≡ Some p → Shows cells log size old → FilesShow cells log size old
+  pub begun_keeps : (size : ℕ) (log : Log) (old new : List (Option (NodePlace D))) (p n : NodeNo) (number : ℕ) → IsNode size p.0 → IsNode size n.0 → primary_of (printed log) ≡ Some p → Shows cells log size old → FilesShow cells log size old
       → BeginsIn cells p.0 n.0 number old new → KeepAllMerges size old new
   begun_keeps size log old new p n number node_p node_n primary shows files b =
       both_keep cells size log old new p.0 n.0 (record { node = Primary b.primary; held = b.both.primary.held }) (record { node = Replica b.replica; held = b.both.replica.held })
@@ -73,7 +73,7 @@ module _ {D : Type 0} (cells : D → Cells) where
       second = subst (λ (c : MergeCopies). RunsNoOther r.copies.running c.running) (sym b.begins.copies) (begun_runs r.seen.0 b.begins.state r.copies at_n.node_shows.whole.merges.apart)
 
   -- the same in the terms of a call
-  pub begun_stand : (r : Run) (ended : Bool) (b0 : Sheet) (old new : List (Option (Place D))) (p n : NodeNo) (number : ℕ) {rest : Rest} → record { ended = ended; nodes = b0.nodes; log = b0.log; rest = rest } ≡ r → r.ended ≡ false
+  pub begun_stand : (r : Run) (ended : Bool) (b0 : Sheet) (old new : List (Option (NodePlace D))) (p n : NodeNo) (number : ℕ) {rest : Rest} → record { ended = ended; nodes = b0.nodes; log = b0.log; rest = rest } ≡ r → r.ended ≡ false
       → (ended ≡ false → Shows cells b0.log b0.nodes old × FilesShow cells b0.log b0.nodes old) → IsNode r.nodes p.0 → IsNode r.nodes n.0 → primary_of (printed r.log) ≡ Some p → BeginsIn cells p.0 n.0 number old new → KeepAllMerges b0.nodes old new
   begun_stand r ended b0 old new p n number view running pair node_p node_n primary b =
       let both = pair (ap (λ (x : Run). x.ended) view ∙ running) in

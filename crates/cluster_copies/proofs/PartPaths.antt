@@ -19,15 +19,15 @@ use Rattle.segment_infos.specs.declared.infos.Infos.{Infos}
 use Rattle.replica_opening.specs.Known.{HasMeta}
 use Rattle.replica_state.specs.declared.job.PointJob.{PointJob}
 use Rattle.replica_state.specs.Jobs.{running_point}
-use Rattle.replica_state.specs.declared.parts.Parts.{Parts as ReplicaParts}
+use Rattle.replica_state.specs.declared.parts.ReplicaParts.{ReplicaParts}
 use Rattle.history_rules.specs.Nodes.{IsNode, IsReplica, version_of, generation_of}
 use Rattle.history_tables.specs.declared.jobs.Job.{Job}
 use Rattle.history_tables.specs.declared.jobs.JobRow.{JobRow}
 use Rattle.history_book.specs.Log.{Log, printed}
 use Rattle.history_book.specs.Jobs.{job_at, LaneJobShows}
-use Rattle.cluster_nodes.specs.declared.held.Held.{Held}
+use Rattle.cluster_nodes.specs.declared.held.HeldTicket.{HeldTicket}
 use Rattle.cluster_nodes.specs.declared.nodes.Node.TheVariants.{Replica}
-use Rattle.cluster_nodes.specs.declared.nodes.Place.{Place}
+use Rattle.cluster_nodes.specs.declared.nodes.NodePlace.{NodePlace}
 use Rattle.cluster_state.specs.Run.{JobFiles, Rest, Run, files_at}
 use Rattle.cluster_nodes.specs.Places.{place_of}
 use Rattle.cluster_state.specs.State.{IsPointAt, HoldsTickets, PlaceShows, Shows}
@@ -63,7 +63,7 @@ some_job (Some k) j is = refl
 
 module _ {D : Type 0} (cells : D → Cells) where
   -- a replica with its files
-  pub there_both : (log : Log) (size n : ℕ) (places : List (Option (Place D))) (shows : Shows cells log size places) (files : FilesShow cells log size places) (r : ReplicaParts D) (held : Vec Held Global) → IsNode size n
+  pub there_both : (log : Log) (size n : ℕ) (places : List (Option (NodePlace D))) (shows : Shows cells log size places) (files : FilesShow cells log size places) (r : ReplicaParts D) (held : Vec HeldTicket Global) → IsNode size n
       → place_of places n ≡ Some (record { node = Replica r; held = held }) → PlaceShows cells log n (record { node = Replica r; held = held }) × ReplicaFiles files.source cells log n r
   there_both log size n places shows files r held node there =
       some_at (Both cells files.source log (λ s. jobs_like places s size) n) (place_of places n) (record { node = Replica r; held = held }) there (both_of cells log size places shows files n node)
@@ -85,7 +85,7 @@ module _ {D : Type 0} (cells : D → Cells) where
           let h = meta_at_source source here.point.copy.want.files part.name meta here.shows.metas named in
           one_meta part.bytes meta part.meta (subst (λ (b : List ℕ). IsMetaOf b meta) (same_bytes h.bytes h.there) h.meta_is) meta_is
 
-  can_take_of : (log : Log) (size : ℕ) (places : List (Option (Place D))) (job : Job) (part : Part) (shows : Shows cells log size places) (files : FilesShow cells log size places) → IsNode size job.node.0 → IsReplica (printed log) job.node.0
+  can_take_of : (log : Log) (size : ℕ) (places : List (Option (NodePlace D))) (job : Job) (part : Part) (shows : Shows cells log size places) (files : FilesShow cells log size places) → IsNode size job.node.0 → IsReplica (printed log) job.node.0
       → job_at job.node.0 log ≡ Some job → file_out job.at job.node.0 job.number part.name log ≡ Some part.bytes → IsMetaOf part.bytes part.meta → CanTake job.node.0 part places
   can_take_of log size places job part shows files node replica is out meta_is = record {
     slot = slot_of cells log size job.node.0 places node shows;
@@ -99,7 +99,7 @@ module _ {D : Type 0} (cells : D → Cells) where
 
   -- ---- it was taken
 
-  place_took : (log : Log) (n : ℕ) (part : Part) (r s : ReplicaParts D) (held : Vec Held Global) → TakesPart cells part r s → PlaceShows cells log n (record { node = Replica r; held = held }) → PlaceShows cells log n (record { node = Replica s; held = held })
+  place_took : (log : Log) (n : ℕ) (part : Part) (r s : ReplicaParts D) (held : Vec HeldTicket Global) → TakesPart cells part r s → PlaceShows cells log n (record { node = Replica r; held = held }) → PlaceShows cells log n (record { node = Replica s; held = held })
   place_took log n part r s held takes shows = record {
     node_shows = record {
       running = shows.node_shows.running;
@@ -143,7 +143,7 @@ module _ {D : Type 0} (cells : D → Cells) where
   next_want : (name : Name) (r s : ReplicaParts D) (j : PointJob) → NextJob name s j → want_of r.job ≡ Some (out_of j.copy.want) → want_of s.job ≡ want_of r.job
   next_want name r s j next was = ap want_of next.there ∙ (want_runs next.point next.runs ∙ (ap (λ (w : CopyState). Some (out_of w)) next.goes.want ∙ sym was))
 
-  pub files_took : (size : ℕ) (log : Log) (old new : List (Option (Place D))) (job : Job) (part : Part) → FilesLast → Shows cells log size old → FilesShow cells log size old → IsNode size job.node.0
+  pub files_took : (size : ℕ) (log : Log) (old new : List (Option (NodePlace D))) (job : Job) (part : Part) → FilesLast → Shows cells log size old → FilesShow cells log size old → IsNode size job.node.0
       → job_at job.node.0 log ≡ Some job → file_out job.at job.node.0 job.number part.name log ≡ Some part.bytes → TakesIn cells job.node.0 part old new → Shows cells log size new × FilesShow cells log size new
   files_took size log old new job part lasting shows files node is out b = (
     shows_put cells size log old new n x b.moves (place_took log n part r s b.at.held b.takes both.0) shows,
@@ -170,10 +170,10 @@ module _ {D : Type 0} (cells : D → Cells) where
       s : ReplicaParts D
       s = b.replica
 
-      x : Place D
+      x : NodePlace D
       x = record { node = Replica s; held = b.at.held }
 
-      y : Place D
+      y : NodePlace D
       y = record { node = Replica r; held = b.at.held }
 
       jobs : Out → ℕ
@@ -211,7 +211,7 @@ module _ {D : Type 0} (cells : D → Cells) where
 
   -- ---- in the terms of a call
 
-  pub can_take : (r : Run) (ended : Bool) (size : ℕ) (log : Log) (places : List (Option (Place D))) (row : JobRow) (part : Part) → {left : Rest} → record { ended = ended; nodes = size; log = log; rest = left } ≡ r → r.ended ≡ false
+  pub can_take : (r : Run) (ended : Bool) (size : ℕ) (log : Log) (places : List (Option (NodePlace D))) (row : JobRow) (part : Part) → {left : Rest} → record { ended = ended; nodes = size; log = log; rest = left } ≡ r → r.ended ≡ false
       → (ended ≡ false → Shows cells log size places × FilesShow cells log size places) → JobRuns r.log row → LaneJobShows size (printed log) row → IsReplica (printed log) row.job.node.0
       → file_out row.job.at row.job.node.0 row.job.number part.name r.log ≡ Some part.bytes → IsMetaOf part.bytes part.meta → CanTake row.job.node.0 part places
   can_take r ended size log places row part view running pair runs lane replica out meta_is =
@@ -221,7 +221,7 @@ module _ {D : Type 0} (cells : D → Cells) where
       can_take_of r.log r.nodes places row.job part (was cells r ended size log places view running (λ e. (pair e).0)) (files_was cells r ended size log places view running (λ e. (pair e).1))
       lane_now.node (subst (λ (l : Log). IsReplica (printed l) row.job.node.0) same_log replica) (runs_at r.nodes r.log row runs lane_now) out meta_is
 
-  pub part_path : (r : Run) (ended : Bool) (size : ℕ) (log : Log) (old new : List (Option (Place D))) (row : JobRow) (part : Part) → {left : Rest} → record { ended = ended; nodes = size; log = log; rest = left } ≡ r → r.ended ≡ false
+  pub part_path : (r : Run) (ended : Bool) (size : ℕ) (log : Log) (old new : List (Option (NodePlace D))) (row : JobRow) (part : Part) → {left : Rest} → record { ended = ended; nodes = size; log = log; rest = left } ≡ r → r.ended ≡ false
       → (ended ≡ false → Shows cells log size old × FilesShow cells log size old) → FilesLast → JobRuns r.log row → LaneJobShows size (printed log) row
       → file_out row.job.at row.job.node.0 row.job.number part.name r.log ≡ Some part.bytes → TakesIn cells row.job.node.0 part old new → Shows cells log size new × FilesShow cells log size new
   part_path r ended size log old new row part view running pair lasting runs lane out b =
@@ -233,10 +233,10 @@ module _ {D : Type 0} (cells : D → Cells) where
       subst (λ (x : Log × ℕ). Shows cells x.0 x.1 new × FilesShow cells x.0 x.1 new) (λ i. (sym same_log i, sym same_size i)) now
 
   -- and what the job lacks and has
-  brings : (log : Log) (size : ℕ) (old new : List (Option (Place D))) (job : Job) (part : Part) → Shows cells log size old → FilesShow cells log size old → IsNode size job.node.0 → job_at job.node.0 log ≡ Some job → TakesIn cells job.node.0 part old new
+  brings : (log : Log) (size : ℕ) (old new : List (Option (NodePlace D))) (job : Job) (part : Part) → Shows cells log size old → FilesShow cells log size old → IsNode size job.node.0 → job_at job.node.0 log ≡ Some job → TakesIn cells job.node.0 part old new
       → BringsFile part.name (place_files (place_of old job.node.0)) (place_files (place_of new job.node.0))
   brings log size old new job part shows files node is b =
-      subst (λ (x : Option (Place D) × Option (Place D)). BringsFile part.name (place_files x.0) (place_files x.1)) (λ i. (sym b.at.there i, sym there_n i))
+      subst (λ (x : Option (NodePlace D) × Option (NodePlace D)). BringsFile part.name (place_files x.0) (place_files x.1)) (λ i. (sym b.at.there i, sym there_n i))
       (subst (λ (o : Option PointJob × Option PointJob). BringsFile part.name (job_files b.at.parts.seen.0 o.0) (job_files b.replica.seen.0 o.1)) (λ i. (sym here.runs i, sym next.there i)) (record {
         seen = ap (λ (z : ReplicaParts D). z.seen.0) b.takes.others;
         missing = next.goes.missing;
@@ -259,7 +259,7 @@ module _ {D : Type 0} (cells : D → Cells) where
       among : (names : List Name) (q : Name) → 0 < times names q → is_among names q ≡ true
       among names q some = among_is names q ∙ lt-ltb 0 (times names q) some
 
-  pub brings_file : (r now : Run) (ended : Bool) (size : ℕ) (log : Log) (old new : List (Option (Place D))) (row : JobRow) (part : Part) → {left : Rest} → record { ended = ended; nodes = size; log = log; rest = left } ≡ r → r.ended ≡ false
+  pub brings_file : (r now : Run) (ended : Bool) (size : ℕ) (log : Log) (old new : List (Option (NodePlace D))) (row : JobRow) (part : Part) → {left : Rest} → record { ended = ended; nodes = size; log = log; rest = left } ≡ r → r.ended ≡ false
       → (ended ≡ false → Shows cells log size old × FilesShow cells log size old) → left.jobs ≡ jobs_in old → now.rest.jobs ≡ jobs_in new → JobRuns r.log row → LaneJobShows size (printed log) row → TakesIn cells row.job.node.0 part old new
       → BringsFile part.name (files_at row.job.node.0 r) (files_at row.job.node.0 now)
   brings_file r now ended size log old new row part view running pair before after runs lane b =
@@ -271,7 +271,7 @@ module _ {D : Type 0} (cells : D → Cells) where
       (brings r.log r.nodes old new row.job part (was cells r ended size log old view running (λ e. (pair e).0)) (files_was cells r ended size log old view running (λ e. (pair e).1)) lane_now.node (runs_at r.nodes r.log row runs lane_now) b)
 
   -- and merges stand
-  pub took_stand : (board : Board) (r : Run) (ended : Bool) (b0 : Sheet) (old new : List (Option (Place D))) (row : JobRow) (part : Part) {rest : Rest} → record { ended = ended; nodes = b0.nodes; log = b0.log; rest = rest } ≡ r → r.ended ≡ false
+  pub took_stand : (board : Board) (r : Run) (ended : Bool) (b0 : Sheet) (old new : List (Option (NodePlace D))) (row : JobRow) (part : Part) {rest : Rest} → record { ended = ended; nodes = b0.nodes; log = b0.log; rest = rest } ≡ r → r.ended ≡ false
       → (ended ≡ false → Shows cells b0.log b0.nodes old × FilesShow cells b0.log b0.nodes old) → JobRuns r.log row → LaneJobShows b0.nodes (printed b0.log) row → TakesIn cells row.job.node.0 part old new → MergesStand b0.log b0.cut b0.nodes board old
       → KeepAllMerges b0.nodes old new
   took_stand board r ended b0 old new row part view running pair runs lane b stands =

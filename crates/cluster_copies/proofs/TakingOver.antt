@@ -15,14 +15,14 @@ use Rattle.copy_state.specs.declared.state.CopyState.{CopyState}
 use Rattle.copy_state.specs.States.{meta_in, meta_names}
 use Rattle.copy_state.specs.Meta.{IsMetaOf}
 use Rattle.copy_state.proofs.MetaLaws.{one_meta}
-use Rattle.primary_state.specs.declared.parts.Parts.{Parts as PrimaryParts}
+use Rattle.primary_state.specs.declared.parts.PrimaryParts.{PrimaryParts}
 use Rattle.copy_job.specs.Parts.{own_names}
 use Rattle.copy_job.specs.declared.part.JobPart.{JobPart}
 use Rattle.copy_job.specs.Jobs.{Job as Copy, IsJob, is_same_meta, is_taken, taken_parts, taken_over}
 use Rattle.copy_job.proofs.Taking.{meta_self}
 use Rattle.replica_opening.specs.Known.{HasMeta}
 use Rattle.replica_state.specs.declared.job.PointJob.{PointJob}
-use Rattle.replica_state.specs.declared.parts.Parts.{Parts as ReplicaParts}
+use Rattle.replica_state.specs.declared.parts.ReplicaParts.{ReplicaParts}
 use Rattle.replica_state.specs.Jobs.{job_on, job_seen, job_taking, running_point}
 use Rattle.replica_state.specs.Replica.{IsJobAbove}
 use Rattle.replica_state.proofs.Metas.{some_meta}
@@ -32,7 +32,7 @@ use Rattle.history_book.specs.Log.{Log, printed}
 use Rattle.history_book.specs.Jobs.{job_at}
 use Rattle.merge_tasks.specs.Merging.{Sheet}
 use Rattle.cluster_nodes.specs.declared.nodes.Node.TheVariants.{Primary, Replica}
-use Rattle.cluster_nodes.specs.declared.nodes.Place.{Place}
+use Rattle.cluster_nodes.specs.declared.nodes.NodePlace.{NodePlace}
 use Rattle.cluster_nodes.specs.Places.{place_of}
 use Rattle.cluster_nodes.specs.Outs.{jobs_like}
 use Rattle.cluster_nodes.specs.JobPlaces.{BeginsIn}
@@ -133,10 +133,10 @@ nothing_twice source number state held old is had wanted q brought = tests (is_a
 -- ---- in its place
 
 module _ {D : Type 0} (cells : D → Cells) where
-  taking : (log : Log) (size : ℕ) (old new : List (Option (Place D))) (p n : NodeNo) (number : ℕ) → FilesLast → BeginsIn cells p.0 n.0 number old new → IsNode size p.0 → IsNode size n.0 → Shows cells log size old → FilesShow cells log size old
+  taking : (log : Log) (size : ℕ) (old new : List (Option (NodePlace D))) (p n : NodeNo) (number : ℕ) → FilesLast → BeginsIn cells p.0 n.0 number old new → IsNode size p.0 → IsNode size n.0 → Shows cells log size old → FilesShow cells log size old
       → TakesOver (generation_of (printed log)) (place_files (place_of old n.0)) (place_files (place_of new n.0))
   taking log size old new p n number lasting b node_p node_n shows files =
-      subst (λ (x : Option (Place D) × Option (Place D)). TakesOver (generation_of (printed log)) (place_files x.0) (place_files x.1)) (λ i. (sym b.both.replica.there i, sym there_n i))
+      subst (λ (x : Option (NodePlace D) × Option (NodePlace D)). TakesOver (generation_of (printed log)) (place_files x.0) (place_files x.1)) (λ i. (sym b.both.replica.there i, sym there_n i))
       (subst (λ (o : Option PointJob). TakesOver (generation_of (printed log)) (job_files r.seen.0 r.job) (job_files s.seen.0 o)) (sym b.begins.there) (all r.job refl))
     where
       q : PrimaryParts D
@@ -148,10 +148,10 @@ module _ {D : Type 0} (cells : D → Cells) where
       s : ReplicaParts D
       s = b.replica
 
-      x : Place D
+      x : NodePlace D
       x = record { node = Primary b.primary; held = b.both.primary.held }
 
-      y : Place D
+      y : NodePlace D
       y = record { node = Replica s; held = b.both.replica.held }
 
       there_n : place_of new n.0 ≡ Some y
@@ -193,7 +193,7 @@ module _ {D : Type 0} (cells : D → Cells) where
       all (Some job) is = record { seen = seen; takes = λ same name brought. takes same job is name brought }
 
   -- in the terms of a call
-  pub taken_by : (r now : Run) (ended : Bool) (b0 : Sheet) (old new : List (Option (Place D))) (p n : NodeNo) (number : ℕ) {left : Rest} → record { ended = ended; nodes = b0.nodes; log = b0.log; rest = left } ≡ r → r.ended ≡ false
+  pub taken_by : (r now : Run) (ended : Bool) (b0 : Sheet) (old new : List (Option (NodePlace D))) (p n : NodeNo) (number : ℕ) {left : Rest} → record { ended = ended; nodes = b0.nodes; log = b0.log; rest = left } ≡ r → r.ended ≡ false
       → (ended ≡ false → Shows cells b0.log b0.nodes old × FilesShow cells b0.log b0.nodes old) → FilesLast → left.jobs ≡ jobs_in old → now.rest.jobs ≡ jobs_in new → IsNode r.nodes p.0 → IsNode r.nodes n.0 → BeginsIn cells p.0 n.0 number old new
       → TakesOver (generation_of (printed r.log)) (files_at n.0 r) (files_at n.0 now)
   taken_by r now ended b0 old new p n number view running pair lasting before after node_p node_n b =

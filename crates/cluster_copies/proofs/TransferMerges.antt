@@ -5,12 +5,12 @@ use Rattle.std.proofs.lemmas.Bool.{eq-eqb}
 use Rattle.nrt_base.specs.declared.numbers.NodeNo.{NodeNo}
 use Rattle.nrt_base.specs.declared.numbers.Version.{Version}
 use Rattle.disk_model.specs.Disk.{Name, Cells}
-use Rattle.primary_state.specs.declared.parts.Parts.{Parts as PrimaryParts}
+use Rattle.primary_state.specs.declared.parts.PrimaryParts.{PrimaryParts}
 use Rattle.primary_state.specs.declared.states.Out.{Out}
 use Rattle.primary_state.specs.States.{is_out, out_of, states_without}
 use Rattle.replica_state.specs.declared.job.PointJob.{PointJob}
 use Rattle.replica_state.specs.declared.merges.MergeCopies.{MergeCopies}
-use Rattle.replica_state.specs.declared.parts.Parts.{Parts as ReplicaParts}
+use Rattle.replica_state.specs.declared.parts.ReplicaParts.{ReplicaParts}
 use Rattle.history_rules.specs.declared.entry.Event.{Event}
 use Rattle.history_rules.specs.declared.entry.Event.TheVariants.{Copying, Switched, Copied}
 use Rattle.history_rules.specs.Nodes.{IsNode, is_at, primary_of}
@@ -22,7 +22,7 @@ use Rattle.history_book.specs.Jobs.{job_at, LaneJobShows}
 use Rattle.merge_tasks.specs.Merging.{Sheet}
 use Rattle.merge_tasks.specs.Board.{Board}
 use Rattle.cluster_nodes.specs.declared.nodes.Node.TheVariants.{Primary, Replica}
-use Rattle.cluster_nodes.specs.declared.nodes.Place.{Place}
+use Rattle.cluster_nodes.specs.declared.nodes.NodePlace.{NodePlace}
 use Rattle.cluster_nodes.specs.Places.{place_of}
 use Rattle.cluster_nodes.specs.Outs.{one_like, want_of, want_at, states_like, jobs_like}
 use Rattle.cluster_nodes.specs.JobChanges.{FinishesAt}
@@ -43,7 +43,7 @@ use Rattle.cluster_copies.proofs.PartPaths.{there_both}
 
 -- ---- the entries of a job's end
 
-module _ {D : Type 0} (board : Board) (places : List (Option (Place D))) (job : Job) where
+module _ {D : Type 0} (board : Board) (places : List (Option (NodePlace D))) (job : Job) where
   pub ended_stand : (b1 b2 : Sheet) (o : Option Event) → b2.log ≡ ended_log job o b1.log → b2.nodes ≡ b1.nodes → b2.cut ≡ b1.cut → MergesStand b1.log b1.cut b1.nodes board places → MergesStand b2.log b2.cut b2.nodes board places
   ended_stand b1 b2 o e n c was = by o e
     where
@@ -66,7 +66,7 @@ module _ {D : Type 0} (board : Board) (places : List (Option (Place D))) (job : 
 module _ {D : Type 0} (cells : D → Cells) where
   -- ---- a file was read
 
-  pub read_stand : (board : Board) (r : Run) (ended : Bool) (b0 : Sheet) (old new : List (Option (Place D))) (p : NodeNo) (name : Name) (bytes : List ℕ) {rest : Rest} → record { ended = ended; nodes = b0.nodes; log = b0.log; rest = rest } ≡ r
+  pub read_stand : (board : Board) (r : Run) (ended : Bool) (b0 : Sheet) (old new : List (Option (NodePlace D))) (p : NodeNo) (name : Name) (bytes : List ℕ) {rest : Rest} → record { ended = ended; nodes = b0.nodes; log = b0.log; rest = rest } ≡ r
       → IsNode r.nodes p.0 → ReadsIn cells p.0 name bytes old new → MergesStand b0.log b0.cut b0.nodes board old → KeepAllMerges b0.nodes old new
   read_stand board r ended b0 old new p name bytes view node b was =
       one_keeps b0.nodes board b0.log b0.cut old new p.0 (record { node = Primary b.primary; held = b.at.held }) (record { node = Primary b.at.parts; held = b.at.held }) b.moves (asked_size (λ (k : ℕ). IsNode k p.0) view refl node) b.at.there refl
@@ -74,7 +74,7 @@ module _ {D : Type 0} (cells : D → Cells) where
 
   -- ---- a job has ended
 
-  finished_keeps : (size : ℕ) (log : Log) (old new : List (Option (Place D))) (p : NodeNo) (job : Job) → IsNode size p.0 → primary_of (printed log) ≡ Some p → IsNode size job.node.0 → job_at job.node.0 log ≡ Some job
+  finished_keeps : (size : ℕ) (log : Log) (old new : List (Option (NodePlace D))) (p : NodeNo) (job : Job) → IsNode size p.0 → primary_of (printed log) ≡ Some p → IsNode size job.node.0 → job_at job.node.0 log ≡ Some job
       → Shows cells log size old → FilesShow cells log size old → FinishesIn cells p.0 job.node.0 old new → KeepAllMerges size old new
   finished_keeps size log old new p job node_p primary node is shows files b =
       both_keep cells size log old new p.0 n x y (record { node = Primary q; held = b.both.primary.held }) (record { node = Replica r; held = b.both.replica.held }) b.moves b.both.primary.there b.both.replica.there
@@ -90,10 +90,10 @@ module _ {D : Type 0} (cells : D → Cells) where
       r : ReplicaParts D
       r = b.both.replica.parts
 
-      x : Place D
+      x : NodePlace D
       x = record { node = Primary b.primary; held = b.both.primary.held }
 
-      y : Place D
+      y : NodePlace D
       y = record { node = Replica b.replica; held = b.both.replica.held }
 
       jobs : Out → ℕ
@@ -118,9 +118,9 @@ module _ {D : Type 0} (cells : D → Cells) where
         outs = λ t.
             let moved = jobs_moved old new t n size node.0 node.1 (wants_apart p.0 n x y (record { node = Primary q; held = b.both.primary.held }) old new b.moves b.both.primary.there refl) in
             let before : one_like t (want_at (place_of old n)) ≡ one_like t (Some (out_of here.point.copy.want))
-            = ap (λ (o : Option (Place D)). one_like t (want_at o)) b.both.replica.there ∙ ap (one_like t) here.want in
+            = ap (λ (o : Option (NodePlace D)). one_like t (want_at o)) b.both.replica.there ∙ ap (one_like t) here.want in
             let after : one_like t (want_at (place_of new n)) ≡ 0
-            = ap (λ (o : Option (Place D)). one_like t (want_at o)) (b.moves.there n ∙ ap (λ (c : Bool). if c then Some y else if p.0 == n then Some x else place_of old n) (eq-eqb n n refl)) ∙ ap (λ (o : Option PointJob). one_like t (want_of o)) f.job in
+            = ap (λ (o : Option (NodePlace D)). one_like t (want_at o)) (b.moves.there n ∙ ap (λ (c : Bool). if c then Some y else if p.0 == n then Some x else place_of old n) (eq-eqb n n refl)) ∙ ap (λ (o : Option PointJob). one_like t (want_of o)) f.job in
             let out : is_out (out_of here.point.copy.want) q.states ≡ true
             = subst (λ (o : Option Out). IfSome o (λ w. is_out w q.states ≡ true)) here.want (job_out cells log size n old q r b.both.replica.held files.source node b.both.replica.there at_p.1) in
             let back = states_back t (out_of here.point.copy.want) q.states out in
@@ -128,7 +128,7 @@ module _ {D : Type 0} (cells : D → Cells) where
             omega (arith, moved, before, after, back, now);
       }
 
-  pub finished_stand : (r : Run) (ended : Bool) (b0 : Sheet) (old new : List (Option (Place D))) (p : NodeNo) (row : JobRow) {rest : Rest} → record { ended = ended; nodes = b0.nodes; log = b0.log; rest = rest } ≡ r → r.ended ≡ false
+  pub finished_stand : (r : Run) (ended : Bool) (b0 : Sheet) (old new : List (Option (NodePlace D))) (p : NodeNo) (row : JobRow) {rest : Rest} → record { ended = ended; nodes = b0.nodes; log = b0.log; rest = rest } ≡ r → r.ended ≡ false
       → (ended ≡ false → Shows cells b0.log b0.nodes old × FilesShow cells b0.log b0.nodes old) → IsNode r.nodes p.0 → primary_of (printed r.log) ≡ Some p → JobRuns r.log row → LaneJobShows b0.nodes (printed b0.log) row
       → FinishesIn cells p.0 row.job.node.0 old new → KeepAllMerges b0.nodes old new
   finished_stand r ended b0 old new p row view running pair node_p primary runs lane b =

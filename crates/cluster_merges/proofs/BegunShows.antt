@@ -13,7 +13,7 @@ use Rattle.seg_reader.specs.Shown.{Shown}
 use Rattle.seg_reader.specs.Stands.{AreSegmentsOf}
 use Rattle.segment_infos.specs.declared.infos.Infos.{Infos}
 use Rattle.searcher_switch.specs.declared.open.Open.{Open}
-use Rattle.searcher_switch.specs.declared.open.Point.{Point}
+use Rattle.searcher_switch.specs.declared.open.SearchPoint.{SearchPoint}
 use Rattle.searcher_switch.specs.Appearing.{NoneAppears}
 use Rattle.history_rules.specs.declared.entry.Entry.{Entry}
 use Rattle.history_rules.specs.declared.entry.Event.TheVariants.{Merging as MergingEvent}
@@ -26,7 +26,7 @@ use Rattle.history_book.specs.Log.{Log, printed, shown, kept}
 use Rattle.history_book.specs.declared.inner.Inner.TheVariants.{MergeOut}
 use Rattle.history_book.specs.Laws.{IsFresh}
 use Rattle.history_book.specs.Turns.{AreInTurn}
-use Rattle.primary_state.specs.declared.parts.Parts.{Parts as PrimaryParts}
+use Rattle.primary_state.specs.declared.parts.PrimaryParts.{PrimaryParts}
 use Rattle.primary_state.specs.declared.parts.Publish.{Publish}
 use Rattle.primary_state.specs.declared.states.Merging.{Merging}
 use Rattle.primary_state.specs.Cut.{infos_drawn}
@@ -35,9 +35,9 @@ use Rattle.primary_state.specs.Merges.{merge_loose}
 use Rattle.primary_state.specs.Primary.{IsPrimary, KeepsHeldBytes, publish_loose, rest_loose, loose_of}
 use Rattle.primary_state.specs.Calls.{DrawsOnly, HoldsNoNew}
 use Rattle.primary_state.proofs.MergeLists.{loose_behind}
-use Rattle.cluster_nodes.specs.declared.held.Held.{Held}
+use Rattle.cluster_nodes.specs.declared.held.HeldTicket.{HeldTicket}
 use Rattle.cluster_nodes.specs.declared.nodes.Node.TheVariants.{Primary}
-use Rattle.cluster_nodes.specs.declared.nodes.Place.{Place}
+use Rattle.cluster_nodes.specs.declared.nodes.NodePlace.{NodePlace}
 use Rattle.cluster_nodes.specs.Places.{place_of}
 use Rattle.cluster_nodes.specs.JobPlaces.{MovesOne}
 use Rattle.cluster_nodes.specs.KeptFiles.{KeepsNodeFiles}
@@ -99,7 +99,7 @@ module _ {D : Type 0} (cells : D → Cells) (size : ℕ) (log : Log) (at : At) (
           running = was.running;
           primary = was.primary;
           whole = whole;
-          point = subst (λ (o : Point Shown). IsPointAt (printed (shown at (MergingEvent seg) ∷ log)) (version_of n (printed log)) o) (sym (ap (λ (z : PrimaryParts D). z.searchers.point) is))
+          point = subst (λ (o : SearchPoint Shown). IsPointAt (printed (shown at (MergingEvent seg) ∷ log)) (version_of n (printed log)) o) (sym (ap (λ (z : PrimaryParts D). z.searchers.point) is))
               (record { version = was.point.version; stands = point });
           writer = subst (λ (x : Infos × List Shown). WritesAt (printed (shown at (MergingEvent seg) ∷ log)) x.0 x.1) (λ i. (sym (ap (λ (z : PrimaryParts D). z.infos) is) i, sym (ap (λ (z : PrimaryParts D). z.segs) is) i))
               (begun_writer (printed log) at seg p.infos p.segs newest.documents was.writer);
@@ -111,14 +111,14 @@ module _ {D : Type 0} (cells : D → Cells) (size : ℕ) (log : Log) (at : At) (
               (λ i. (sym (ap (λ (z : PrimaryParts D). z.publish) is) i, sym (ap (λ (z : PrimaryParts D). z.segs) is) i)) flight;
         }
 
-    begun_place : (held : Vec Held Global) → PlaceShows cells log n (record { node = Primary p; held = held }) → PlaceShows cells (shown at (MergingEvent seg) ∷ log) n (record { node = Primary q; held = held })
+    begun_place : (held : Vec HeldTicket Global) → PlaceShows cells log n (record { node = Primary p; held = held }) → PlaceShows cells (shown at (MergingEvent seg) ∷ log) n (record { node = Primary q; held = held })
     begun_place held was = record {
       node_shows = begun_primary was.node_shows;
       tickets = subst (λ (ts : List (Open Shown)). HoldsTickets (printed (shown at (MergingEvent seg) ∷ log)) n ts held.items) (sym (ap (λ (z : PrimaryParts D). z.searchers.tickets) is))
           (holds_same (printed log) (printed (shown at (MergingEvent seg) ∷ log)) n p.searchers.tickets held.items (lasts size (printed log) at (MergingEvent seg) legal rule) (fewer (printed log) at (MergingEvent seg) n refl) was.tickets);
     }
 
-    module _ (held : Vec Held Global) (old new : List (Option (Place D))) (moves : MovesOne n (record { node = Primary q; held = held }) old new) (node : IsNode size n) (there : place_of old n ≡ Some (record { node = Primary p; held = held }))
+    module _ (held : Vec HeldTicket Global) (old new : List (Option (NodePlace D))) (moves : MovesOne n (record { node = Primary q; held = held }) old new) (node : IsNode size n) (there : place_of old n ≡ Some (record { node = Primary p; held = held }))
         (shows : Shows cells log size old) where
       shown_shows : ((m : ℕ) → (n == m) ≡ false → is_at (primary_of (printed log)) m ≡ false) → Shows cells (shown at (MergingEvent seg) ∷ log) size new
       shown_shows others = record {

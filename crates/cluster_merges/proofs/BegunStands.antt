@@ -22,7 +22,7 @@ use Rattle.history_tables.proofs.RowLemmas.{by_test}
 use Rattle.history_book.specs.Log.{Log, printed, shown, kept}
 use Rattle.history_book.specs.declared.inner.Inner.TheVariants.{MergeOut}
 use Rattle.merge_tasks.specs.Merging.{next_name}
-use Rattle.primary_state.specs.declared.parts.Parts.{Parts as PrimaryParts}
+use Rattle.primary_state.specs.declared.parts.PrimaryParts.{PrimaryParts}
 use Rattle.primary_state.specs.declared.states.Merging.{Merging}
 use Rattle.primary_state.specs.declared.states.Out.{Out}
 use Rattle.primary_state.specs.Merges.{merge_of}
@@ -34,10 +34,10 @@ use Rattle.merge_tasks.specs.TaskLog.{or_first, inputs_by, inputs_out, merge_tas
 use Rattle.merge_tasks.specs.Board.{Board, open_merge, spread_at, is_sent_in, posted_merge, TasksShow}
 use Rattle.merge_tasks.proofs.BoardRows.{open_end}
 use Rattle.merge_tasks.proofs.TaskFrames.{first_stays, tasks_begun}
-use Rattle.cluster_nodes.specs.declared.held.Held.{Held}
+use Rattle.cluster_nodes.specs.declared.held.HeldTicket.{HeldTicket}
 use Rattle.cluster_nodes.specs.declared.nodes.Node.{Node}
 use Rattle.cluster_nodes.specs.declared.nodes.Node.TheVariants.{Primary, Replica, Down}
-use Rattle.cluster_nodes.specs.declared.nodes.Place.{Place}
+use Rattle.cluster_nodes.specs.declared.nodes.NodePlace.{NodePlace}
 use Rattle.cluster_nodes.specs.Places.{place_of}
 use Rattle.cluster_nodes.specs.Outs.{one_like, states_like, jobs_like}
 use Rattle.cluster_nodes.specs.JobPlaces.{MovesOne}
@@ -117,7 +117,7 @@ sent_beside rows row n running fresh sent = sent_still rows (rows ++ row ∷ [])
         clash : ◌≡◌ {A = Option Spread} None (Some s) → ⊥
         clash e = absurd (cc)
 
-module _ {D : Type 0} (cells : D → Cells) (size : ℕ) (log : Log) (cut : Bool) (board new_board : Board) (at : At) (seg : SegNo) (task : MergeTask) (m : Merging) (n : ℕ) (p q : PrimaryParts D) (held : Vec Held Global) (old new : List (Option (Place D)))
+module _ {D : Type 0} (cells : D → Cells) (size : ℕ) (log : Log) (cut : Bool) (board new_board : Board) (at : At) (seg : SegNo) (task : MergeTask) (m : Merging) (n : ℕ) (p q : PrimaryParts D) (held : Vec HeldTicket Global) (old new : List (Option (NodePlace D)))
     (legal : IsLegalPast size (printed log)) (names : names_drawn (printed log) < segments_of_generation) (next : seg.0 ≡ next_name (printed log)) (of : task ≡ merge_task seg task.inputs) (task_is : m.task ≡ task) (unmade : m.merged ≡ None)
     (fit : IsFitTask task) (is : HasStarted p q) (merges : q.merges ≡ p.merges ++ m ∷ [])
     (moves : MovesOne n (record { node = Primary q; held = held }) old new) (node : IsNode size n) (there : place_of old n ≡ Some (record { node = Primary p; held = held })) (shows : Shows cells log size old)
@@ -134,7 +134,7 @@ module _ {D : Type 0} (cells : D → Cells) (size : ℕ) (log : Log) (cut : Bool
   unnoted = ap (λ (k : ℕ). inputs_out k log) next ∙ next_unnoted size log board legal names was.tasks
 
   mine : PrimaryMerges log cut (λ s. jobs_like old s size) board.rows p
-  mine = some_at (λ (z : Place D). NodeMerges log cut (λ s. jobs_like old s size) board.rows n z.node) (place_of old n) (record { node = Primary p; held = held }) there (was.each n node)
+  mine = some_at (λ (z : NodePlace D). NodeMerges log cut (λ s. jobs_like old s size) board.rows n z.node) (place_of old n) (record { node = Primary p; held = held }) there (was.each n node)
 
   fresh : open_merge seg.0 board.rows ≡ None
   fresh = next_open log p.merges board.rows seg.0 unnoted (mine.merges seg.0)

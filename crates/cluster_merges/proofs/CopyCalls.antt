@@ -13,7 +13,7 @@ use Rattle.copy_state.specs.States.{meta_in}
 use Rattle.copy_state.specs.Meta.{IsMetaOf}
 use Rattle.copy_job.specs.declared.copying.Part.{Part}
 use Rattle.copy_job.specs.Jobs.{Job}
-use Rattle.replica_state.specs.declared.parts.Parts.{Parts as ReplicaParts}
+use Rattle.replica_state.specs.declared.parts.ReplicaParts.{ReplicaParts}
 use Rattle.replica_state.specs.Merges.{copy_at}
 use Rattle.history_rules.specs.Nodes.{IsNode, primary_of}
 use Rattle.history_rules.specs.Legal.{IsLegalPast}
@@ -25,10 +25,10 @@ use Rattle.merge_tasks.specs.Merging.{Sheet}
 use Rattle.merge_tasks.specs.declared.tasks.OpenMerge.{OpenMerge}
 use Rattle.merge_tasks.specs.TaskLog.{carried_out}
 use Rattle.merge_tasks.specs.Board.{Board, open_merge, spread_at, with_spread, sent_left, sent_less, post_after}
-use Rattle.cluster_nodes.specs.declared.held.Held.{Held}
+use Rattle.cluster_nodes.specs.declared.held.HeldTicket.{HeldTicket}
 use Rattle.cluster_nodes.specs.declared.nodes.Node.{Node}
 use Rattle.cluster_nodes.specs.declared.nodes.Node.TheVariants.{Primary, Replica, Down}
-use Rattle.cluster_nodes.specs.declared.nodes.Place.{Place}
+use Rattle.cluster_nodes.specs.declared.nodes.NodePlace.{NodePlace}
 use Rattle.cluster_nodes.specs.Places.{place_of, unwrapped}
 use Rattle.cluster_nodes.specs.JobChanges.{HasReplica}
 use Rattle.node_merges.specs.MergeChanges.{is_copy_of, MayTakeMerged, TakesMerged}
@@ -83,18 +83,18 @@ module _ (r : Run) (b0 b1 : Sheet) (board : Board) {ended cut : Bool} {calls : L
 -- ---- what callers see of the copies that run
 
 module _ {D : Type 0} where
-  copies_told : (o : Option (Option (Place D))) → unwrap_or (option_map place_copies o) [] ≡ place_copies (unwrapped o)
+  copies_told : (o : Option (Option (NodePlace D))) → unwrap_or (option_map place_copies o) [] ≡ place_copies (unwrapped o)
   copies_told None = refl
   copies_told (Some place) = refl
 
-  misses_are : (seg n number : ℕ) (r : Run) (places : List (Option (Place D))) → r.rest.copies ≡ copies_in places → misses_at seg n number r ≡ misses_file seg number (place_copies (place_of places n))
+  misses_are : (seg n number : ℕ) (r : Run) (places : List (Option (NodePlace D))) → r.rest.copies ≡ copies_in places → misses_at seg n number r ≡ misses_file seg number (place_copies (place_of places n))
   misses_are seg zero number r places is = refl
   misses_are seg (suc k) number r places is =
       ap (λ (l : List (List MergedCopy)). misses_file seg number (unwrap_or (slice_get l k) [])) is
       ∙ ap (λ (l : List MergedCopy). misses_file seg number l) (ap (λ (o : Option (List MergedCopy)). unwrap_or o []) (slice_get-map place_copies places k) ∙ copies_told (slice_get places k))
 
   -- the turn is that of the copy that callers see
-  pub turn_where : (r : Run) (b0 b1 : Sheet) (board : Board) (places : List (Option (Place D))) → {ended cut : Bool} {calls : List ℕ} {sizes : List (Option ℕ)} {jobs : List JobFiles} {plans : List Plans}
+  pub turn_where : (r : Run) (b0 b1 : Sheet) (board : Board) (places : List (Option (NodePlace D))) → {ended cut : Bool} {calls : List ℕ} {sizes : List (Option ℕ)} {jobs : List JobFiles} {plans : List Plans}
       → record { ended = ended; nodes = b0.nodes; log = b0.log; rest = record { calls_left = calls; cut = cut; sizes = sizes; jobs = jobs; copies = copies_in places; tasks = board; plans = plans } } ≡ r → b1.log ≡ b0.log → (seg : SegNo) (n : NodeNo) (job : ℕ) (turn : CopyTurn)
       → IsTurnWhere (misses_file seg.0 job (place_copies (place_of places n.0))) (job_at n.0 b1.log) turn → IsTurnWhere (misses_at seg.0 n.0 job r) (job_at n.0 r.log) turn
   turn_where r b0 b1 board places view e1 seg n job turn is =
@@ -112,33 +112,33 @@ some_is o c is = ap is_some is
 
 module _ {D : Type 0} where
   -- a copy that runs at the node that is there
-  pub record RunsThere (seg number n : ℕ) (places : List (Option (Place D))) : Type 0 where
+  pub record RunsThere (seg number n : ℕ) (places : List (Option (NodePlace D))) : Type 0 where
     pub parts : ReplicaParts D
-    pub held : Vec Held Global
+    pub held : Vec HeldTicket Global
     pub there : place_of places n ≡ Some (record { node = Replica parts; held = held })
     pub copy : Job
     pub runs : copy_at number parts.copies.running ≡ Some copy
 
-  pub runs_there : (seg number n : ℕ) (places : List (Option (Place D))) → RunsCopyOf seg number (place_of places n) → RunsThere seg number n places
+  pub runs_there : (seg number n : ℕ) (places : List (Option (NodePlace D))) → RunsCopyOf seg number (place_of places n) → RunsThere seg number n places
   runs_there seg number n places is = by (place_of places n) refl is
     where
-      of_copy : (r : ReplicaParts D) (held : Vec Held Global) → place_of places n ≡ Some (record { node = Replica r; held = held }) → (o : Option Job) → copy_at number r.copies.running ≡ o → IsSomeAnd o (λ c. is_copy_of seg c ≡ true) → RunsThere seg number n places
+      of_copy : (r : ReplicaParts D) (held : Vec HeldTicket Global) → place_of places n ≡ Some (record { node = Replica r; held = held }) → (o : Option Job) → copy_at number r.copies.running ≡ o → IsSomeAnd o (λ c. is_copy_of seg c ≡ true) → RunsThere seg number n places
       of_copy r held there None at none = absurd none
       of_copy r held there (Some c) at is = record { parts = r; held = held; there = there; copy = c; runs = at }
 
-      of_node : (x : Node D) (held : Vec Held Global) → place_of places n ≡ Some (record { node = x; held = held }) → RunsCopyOf seg number (Some (record { node = x; held = held })) → RunsThere seg number n places
+      of_node : (x : Node D) (held : Vec HeldTicket Global) → place_of places n ≡ Some (record { node = x; held = held }) → RunsCopyOf seg number (Some (record { node = x; held = held })) → RunsThere seg number n places
       of_node (Primary p) held there none = absurd none
       of_node (Replica r) held there is = of_copy r held there (copy_at number r.copies.running) refl is
       of_node (Down d) held there none = absurd none
 
-      by : (o : Option (Place D)) → place_of places n ≡ o → RunsCopyOf seg number o → RunsThere seg number n places
+      by : (o : Option (NodePlace D)) → place_of places n ≡ o → RunsCopyOf seg number o → RunsThere seg number n places
       by None there none = absurd none
       by (Some z) there is = of_node z.node z.held there is
 
-  replica_there : (places : List (Option (Place D))) (n : ℕ) (r : ReplicaParts D) (held : Vec Held Global) → place_of places n ≡ Some (record { node = Replica r; held = held }) → HasReplica (place_of places n)
+  replica_there : (places : List (Option (NodePlace D))) (n : ℕ) (r : ReplicaParts D) (held : Vec HeldTicket Global) → place_of places n ≡ Some (record { node = Replica r; held = held }) → HasReplica (place_of places n)
   replica_there places n r held there = subst HasReplica (sym there) tt
 
-module _ {D : Type 0} (cells : D → Cells) (b : Sheet) (board : Board) (places : List (Option (Place D))) (all : AllShown cells b board places) (legal : IsLegalPast b.nodes (printed b.log)) (seg : SegNo) (n : NodeNo) (number : ℕ) (node : IsNode b.nodes n.0)
+module _ {D : Type 0} (cells : D → Cells) (b : Sheet) (board : Board) (places : List (Option (NodePlace D))) (all : AllShown cells b board places) (legal : IsLegalPast b.nodes (printed b.log)) (seg : SegNo) (n : NodeNo) (number : ℕ) (node : IsNode b.nodes n.0)
     (runs : RunsCopyOf seg.0 number (place_of places n.0)) where
   -- a primary runs, since without one no merge is in flight
   record SourceRuns : Type 0 where
@@ -176,17 +176,17 @@ module _ {D : Type 0} (cells : D → Cells) (b : Sheet) (board : Board) (places 
         t = runs_there seg.0 number n.0 places runs
 
         -- what stands there is the replica whose copy runs
-        same_copy : (r : ReplicaParts D) (held : Vec Held Global) → place_of places n.0 ≡ Some (record { node = Replica r; held = held }) → copy_at number r.copies.running ≡ Some t.copy
+        same_copy : (r : ReplicaParts D) (held : Vec HeldTicket Global) → place_of places n.0 ≡ Some (record { node = Replica r; held = held }) → copy_at number r.copies.running ≡ Some t.copy
         same_copy r held there = at_replica (λ (q : ReplicaParts D). copy_at number q.copies.running ≡ Some t.copy) places n.0 t.parts r t.held held t.there there t.runs
 
-        wanted : (r : ReplicaParts D) (held : Vec Held Global) → place_of places n.0 ≡ Some (record { node = Replica r; held = held }) → (o : Option Job) → copy_at number r.copies.running ≡ o
+        wanted : (r : ReplicaParts D) (held : Vec HeldTicket Global) → place_of places n.0 ≡ Some (record { node = Replica r; held = held }) → (o : Option Job) → copy_at number r.copies.running ≡ o
             → IfSome o (λ c. (m : FileMetaData) → meta_in c.want.files part.name ≡ Some m → m ≡ part.meta)
         wanted r held there None at = tt
         wanted r held there (Some c) at = λ m listed.
             carried_meta cells b board places all source_runs.source source_runs.node_is source_runs.is part.name m part.meta part.bytes c
             (copy_here cells b board places all source_runs.source source_runs.node_is source_runs.is n.0 number r held c node there at) (all.1.carried part.name part.bytes out) meta listed
 
-    pub taken_all : (new : List (Option (Place D))) → MovesReplica (TakesMerged cells number part) n.0 places new → AllShown cells b board new
+    pub taken_all : (new : List (Option (NodePlace D))) → MovesReplica (TakesMerged cells number part) n.0 places new → AllShown cells b board new
     taken_all new w =
         copies_path cells b board places new n.0 w.at.parts w.replica w.at.held w.moves node w.at.there all
         (taken_moves cells all.1.source (printed b.log) number t.copy part w.at.parts w.replica at (whole_here cells b board places all n.0 w.at.parts w.at.held node w.at.there)

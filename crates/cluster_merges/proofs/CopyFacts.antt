@@ -15,11 +15,11 @@ use Rattle.copy_state.specs.States.{meta_names, meta_in}
 use Rattle.copy_state.specs.Meta.{IsMetaOf}
 use Rattle.copy_state.proofs.MetaLaws.{one_meta}
 use Rattle.copy_job.specs.Jobs.{Job}
-use Rattle.primary_state.specs.declared.parts.Parts.{Parts as PrimaryParts}
+use Rattle.primary_state.specs.declared.parts.PrimaryParts.{PrimaryParts}
 use Rattle.replica_opening.specs.Known.{HasMeta}
 use Rattle.replica_state.specs.declared.job.PointJob.{PointJob}
 use Rattle.replica_state.specs.Jobs.{running_point}
-use Rattle.replica_state.specs.declared.parts.Parts.{Parts as ReplicaParts}
+use Rattle.replica_state.specs.declared.parts.ReplicaParts.{ReplicaParts}
 use Rattle.replica_state.specs.Merges.{copy_at}
 use Rattle.replica_state.specs.Replica.{IsWholeReplica}
 use Rattle.replica_state.proofs.Metas.{meta_some}
@@ -31,10 +31,10 @@ use Rattle.history_book.specs.Jobs.{job_at}
 use Rattle.merge_tasks.specs.Merging.{Sheet}
 use Rattle.merge_tasks.specs.declared.tasks.Spread.{Spread}
 use Rattle.merge_tasks.specs.Board.{Board, open_merge, spread_at, has_copy_task}
-use Rattle.cluster_nodes.specs.declared.held.Held.{Held}
+use Rattle.cluster_nodes.specs.declared.held.HeldTicket.{HeldTicket}
 use Rattle.cluster_nodes.specs.declared.nodes.Node.{Node}
 use Rattle.cluster_nodes.specs.declared.nodes.Node.TheVariants.{Primary, Replica, Down}
-use Rattle.cluster_nodes.specs.declared.nodes.Place.{Place}
+use Rattle.cluster_nodes.specs.declared.nodes.NodePlace.{NodePlace}
 use Rattle.cluster_nodes.specs.Places.{place_of, IsSlot}
 use Rattle.cluster_nodes.specs.Outs.{jobs_like}
 use Rattle.cluster_nodes.specs.JobChanges.{HasReplica, IsNextToFetch}
@@ -134,30 +134,30 @@ module _ {D : Type 0} where
   step_misses seg number (Wants q meta) r is =
       short_copy seg (copy_at number r.copies.running) true (λ (c : Job). IsNextToFetch c (Some (q, meta))) (λ c next. ap is_short next.1) is.0
 
-  pub place_misses : (seg number : ℕ) (step : CopyStep) (o : Option (Place D)) → IsStepAt seg number o step → misses_file seg number (place_copies o) ≡ is_fetch step
+  pub place_misses : (seg number : ℕ) (step : CopyStep) (o : Option (NodePlace D)) → IsStepAt seg number o step → misses_file seg number (place_copies o) ≡ is_fetch step
   place_misses seg number step None is = sym (ap is_fetch is)
   place_misses seg number step (Some place) is = of_node place.node place.held is
     where
-      of_node : (x : Node D) (held : Vec Held Global) → IsStepAt seg number (Some (record { node = x; held = held })) step → misses_file seg number (place_copies (Some (record { node = x; held = held }))) ≡ is_fetch step
+      of_node : (x : Node D) (held : Vec HeldTicket Global) → IsStepAt seg number (Some (record { node = x; held = held })) step → misses_file seg number (place_copies (Some (record { node = x; held = held }))) ≡ is_fetch step
       of_node (Primary p) held is = sym (ap is_fetch is)
       of_node (Replica r) held is = misses_told seg number r.copies.running ∙ step_misses seg number step r is
       of_node (Down d) held is = sym (ap is_fetch is)
 
 module _ {D : Type 0} where
   -- more than nothing is to be done at replicas alone
-  pub step_replica : (seg number : ℕ) (step : CopyStep) (o : Option (Place D)) → (step ≡ Gone → ⊥) → IsStepAt seg number o step → HasReplica o
+  pub step_replica : (seg number : ℕ) (step : CopyStep) (o : Option (NodePlace D)) → (step ≡ Gone → ⊥) → IsStepAt seg number o step → HasReplica o
   step_replica seg number step None some is = absurd (some is)
   step_replica seg number step (Some place) some is = of_node place.node place.held is
     where
-      of_node : (x : Node D) (held : Vec Held Global) → IsStepAt seg number (Some (record { node = x; held = held })) step → HasReplica (Some (record { node = x; held = held }))
+      of_node : (x : Node D) (held : Vec HeldTicket Global) → IsStepAt seg number (Some (record { node = x; held = held })) step → HasReplica (Some (record { node = x; held = held }))
       of_node (Primary p) held is = absurd (some is)
       of_node (Replica r) held is = tt
       of_node (Down d) held is = absurd (some is)
 
   -- what is to be done for the copy at the replica that is there
-  pub step_here : (places : List (Option (Place D))) (n seg number : ℕ) (step : CopyStep) (r : ReplicaParts D) (held : Vec Held Global) → place_of places n ≡ Some (record { node = Replica r; held = held })
+  pub step_here : (places : List (Option (NodePlace D))) (n seg number : ℕ) (step : CopyStep) (r : ReplicaParts D) (held : Vec HeldTicket Global) → place_of places n ≡ Some (record { node = Replica r; held = held })
       → IsStepAt seg number (place_of places n) step → IsStepOf seg number r step
-  step_here places n seg number step r held there is = subst (λ (o : Option (Place D)). IsStepAt seg number o step) there is
+  step_here places n seg number step r held there is = subst (λ (o : Option (NodePlace D)). IsStepAt seg number o step) there is
 
   -- so it is of what stands there, where that is a replica
   abbrev OfReplica : (ReplicaParts D → Type 0) → Node D → Type 0
@@ -166,8 +166,8 @@ module _ {D : Type 0} where
   OfReplica P (Down d) = ⊤
 
   -- one replica stands there
-  pub at_replica : (P : ReplicaParts D → Type 0) (places : List (Option (Place D))) (n : ℕ) (r s : ReplicaParts D) (held kept : Vec Held Global) → place_of places n ≡ Some (record { node = Replica r; held = held }) → place_of places n ≡ Some (record { node = Replica s; held = kept }) → P r → P s
-  at_replica P places n r s held kept there here is = some_at (λ (z : Place D). OfReplica P z.node) (Some (record { node = Replica r; held = held })) (record { node = Replica s; held = kept }) (sym there ∙ here) is
+  pub at_replica : (P : ReplicaParts D → Type 0) (places : List (Option (NodePlace D))) (n : ℕ) (r s : ReplicaParts D) (held kept : Vec HeldTicket Global) → place_of places n ≡ Some (record { node = Replica r; held = held }) → place_of places n ≡ Some (record { node = Replica s; held = kept }) → P r → P s
+  at_replica P places n r s held kept there here is = some_at (λ (z : NodePlace D). OfReplica P z.node) (Some (record { node = Replica r; held = held })) (record { node = Replica s; held = kept }) (sym there ∙ here) is
 
 pub not_complete : Complete ≡ Gone → ⊥
 not_complete e = absurd (cc)
@@ -178,27 +178,27 @@ not_waits e = absurd (cc)
 pub not_wants : (q : Name) (meta : FileMetaData) → Wants q meta ≡ Gone → ⊥
 not_wants q meta e = absurd (cc)
 
-module _ {D : Type 0} (cells : D → Cells) (b : Sheet) (board : Board) (places : List (Option (Place D))) (all : AllShown cells b board places) where
+module _ {D : Type 0} (cells : D → Cells) (b : Sheet) (board : Board) (places : List (Option (NodePlace D))) (all : AllShown cells b board places) where
   pub slot_here : (n : ℕ) → IsNode b.nodes n → IsSlot places n
   slot_here n node = slot_of cells b.log b.nodes n places node all.0
 
-  pub whole_here : (n : ℕ) (r : ReplicaParts D) (held : Vec Held Global) → IsNode b.nodes n → place_of places n ≡ Some (record { node = Replica r; held = held }) → IsWholeReplica cells r
+  pub whole_here : (n : ℕ) (r : ReplicaParts D) (held : Vec HeldTicket Global) → IsNode b.nodes n → place_of places n ≡ Some (record { node = Replica r; held = held }) → IsWholeReplica cells r
   whole_here n r held node there = (some_at (PlaceShows cells b.log n) (place_of places n) (record { node = Replica r; held = held }) there (all.0.each n node)).node_shows.whole
 
-  pub sent_here : (n : ℕ) (r : ReplicaParts D) (held : Vec Held Global) → IsNode b.nodes n → place_of places n ≡ Some (record { node = Replica r; held = held }) → AreSentCopies board.rows n r.copies.running
+  pub sent_here : (n : ℕ) (r : ReplicaParts D) (held : Vec HeldTicket Global) → IsNode b.nodes n → place_of places n ≡ Some (record { node = Replica r; held = held }) → AreSentCopies board.rows n r.copies.running
   sent_here n r held node there =
-      some_at (λ (z : Place D). NodeMerges b.log b.cut (λ o. jobs_like places o b.nodes) board.rows n z.node) (place_of places n) (record { node = Replica r; held = held }) there (all.2.each n node)
+      some_at (λ (z : NodePlace D). NodeMerges b.log b.cut (λ o. jobs_like places o b.nodes) board.rows n z.node) (place_of places n) (record { node = Replica r; held = held }) there (all.2.each n node)
 
   -- a copy waits while the log shows a job at its node
   pub job_runs : (n seg number : ℕ) → IsNode b.nodes n → IsStepAt seg number (place_of places n) Waits → IsSome (job_at n b.log)
   job_runs n seg number node is = by (place_of places n) is (all.1.each n node)
     where
-      of_node : (x : Node D) (held : Vec Held Global) → IsStepAt seg number (Some (record { node = x; held = held })) Waits → NodeFiles all.1.source cells b.log (λ o. jobs_like places o b.nodes) n x → IsSome (job_at n b.log)
+      of_node : (x : Node D) (held : Vec HeldTicket Global) → IsStepAt seg number (Some (record { node = x; held = held })) Waits → NodeFiles all.1.source cells b.log (λ o. jobs_like places o b.nodes) n x → IsSome (job_at n b.log)
       of_node (Primary p) held step files = absurd (not_waits step)
       of_node (Replica r) held step files = job_shown all.1.source b.log n (job_at n b.log) r.job files.job step.1
       of_node (Down d) held step files = absurd (not_waits step)
 
-      by : (o : Option (Place D)) → IsStepAt seg number o Waits → IsSomeAnd o (λ z. NodeFiles all.1.source cells b.log (λ o. jobs_like places o b.nodes) n z.node) → IsSome (job_at n b.log)
+      by : (o : Option (NodePlace D)) → IsStepAt seg number o Waits → IsSomeAnd o (λ z. NodeFiles all.1.source cells b.log (λ o. jobs_like places o b.nodes) n z.node) → IsSome (job_at n b.log)
       by None step files = absurd files
       by (Some z) step files = of_node z.node z.held step files
 
@@ -206,12 +206,12 @@ module _ {D : Type 0} (cells : D → Cells) (b : Sheet) (board : Board) (places 
   pub no_job : (n seg number : ℕ) (q : Name) (meta : FileMetaData) → IsNode b.nodes n → IsStepAt seg number (place_of places n) (Wants q meta) → job_at n b.log ≡ None
   no_job n seg number q meta node is = by (place_of places n) is (all.1.each n node)
     where
-      of_node : (x : Node D) (held : Vec Held Global) → IsStepAt seg number (Some (record { node = x; held = held })) (Wants q meta) → NodeFiles all.1.source cells b.log (λ o. jobs_like places o b.nodes) n x → job_at n b.log ≡ None
+      of_node : (x : Node D) (held : Vec HeldTicket Global) → IsStepAt seg number (Some (record { node = x; held = held })) (Wants q meta) → NodeFiles all.1.source cells b.log (λ o. jobs_like places o b.nodes) n x → job_at n b.log ≡ None
       of_node (Primary p) held step files = absurd (not_wants q meta step)
       of_node (Replica r) held step files = none_shown all.1.source b.log n (job_at n b.log) r.job files.job step.1
       of_node (Down d) held step files = absurd (not_wants q meta step)
 
-      by : (o : Option (Place D)) → IsStepAt seg number o (Wants q meta) → IsSomeAnd o (λ z. NodeFiles all.1.source cells b.log (λ o. jobs_like places o b.nodes) n z.node) → job_at n b.log ≡ None
+      by : (o : Option (NodePlace D)) → IsStepAt seg number o (Wants q meta) → IsSomeAnd o (λ z. NodeFiles all.1.source cells b.log (λ o. jobs_like places o b.nodes) n z.node) → job_at n b.log ≡ None
       by None step files = absurd files
       by (Some z) step files = of_node z.node z.held step files
 
@@ -227,8 +227,8 @@ module _ {D : Type 0} (cells : D → Cells) (b : Sheet) (board : Board) (places 
     is_primary : is_at (primary_of (printed b.log)) p.0 ≡ true
     is_primary = ap (λ (o : Option NodeNo). is_at o p.0) primary ∙ eq-eqb p.0 p.0 refl
 
-    merges_at : (q : PrimaryParts D) (held : Vec Held Global) → place_of places p.0 ≡ Some (record { node = Primary q; held = held }) → PrimaryMerges b.log b.cut (λ o. jobs_like places o b.nodes) board.rows q
-    merges_at q held there = some_at (λ (z : Place D). NodeMerges b.log b.cut (λ o. jobs_like places o b.nodes) board.rows p.0 z.node) (place_of places p.0) (record { node = Primary q; held = held }) there (all.2.each p.0 node_p)
+    merges_at : (q : PrimaryParts D) (held : Vec HeldTicket Global) → place_of places p.0 ≡ Some (record { node = Primary q; held = held }) → PrimaryMerges b.log b.cut (λ o. jobs_like places o b.nodes) board.rows q
+    merges_at q held there = some_at (λ (z : NodePlace D). NodeMerges b.log b.cut (λ o. jobs_like places o b.nodes) board.rows p.0 z.node) (place_of places p.0) (record { node = Primary q; held = held }) there (all.2.each p.0 node_p)
 
     -- the files of a row
     pub written_here : (seg : ℕ) (s : Spread) → spread_at (open_merge seg board.rows) ≡ Some s → IsWrittenMerge all.1.source seg s
@@ -244,7 +244,7 @@ module _ {D : Type 0} (cells : D → Cells) (b : Sheet) (board : Board) (places 
       pub want : c.want ≡ spread.state
       pub written : IsWrittenMerge all.1.source seg spread
 
-    pub copy_here : (n number : ℕ) (r : ReplicaParts D) (held : Vec Held Global) (c : Job) → IsNode b.nodes n → place_of places n ≡ Some (record { node = Replica r; held = held }) → copy_at number r.copies.running ≡ Some c → CopyHere c
+    pub copy_here : (n number : ℕ) (r : ReplicaParts D) (held : Vec HeldTicket Global) (c : Job) → IsNode b.nodes n → place_of places n ≡ Some (record { node = Replica r; held = held }) → copy_at number r.copies.running ≡ Some c → CopyHere c
     copy_here n number r held c node there at =
         let was = sent_here n r held node there number c at in
         record { seg = was.seg; spread = was.spread; row = was.row; want = was.want; written = written_here was.seg was.spread was.row }
@@ -274,17 +274,17 @@ module _ {D : Type 0} (cells : D → Cells) (b : Sheet) (board : Board) (places 
     pub next_file : (n seg number : ℕ) (q : Name) (meta : FileMetaData) → IsNode b.nodes n → IsStepAt seg number (place_of places n) (Wants q meta) → NextOfCopy q meta
     next_file n seg number q meta node is = by (place_of places n) refl is
       where
-        of_copy : (r : ReplicaParts D) (held : Vec Held Global) → place_of places n ≡ Some (record { node = Replica r; held = held }) → (o : Option Job) → copy_at number r.copies.running ≡ o
+        of_copy : (r : ReplicaParts D) (held : Vec HeldTicket Global) → place_of places n ≡ Some (record { node = Replica r; held = held }) → (o : Option Job) → copy_at number r.copies.running ≡ o
             → IsSomeAnd o (λ c. (is_copy_of seg c ≡ true) × IsNextToFetch c (Some (q, meta))) → NextOfCopy q meta
         of_copy r held there None at none = absurd none
         of_copy r held there (Some c) at next = record { copy = c; here = copy_here n number r held c node there at; listed = next.1.2 }
 
-        of_node : (x : Node D) (held : Vec Held Global) → place_of places n ≡ Some (record { node = x; held = held }) → IsStepAt seg number (Some (record { node = x; held = held })) (Wants q meta) → NextOfCopy q meta
+        of_node : (x : Node D) (held : Vec HeldTicket Global) → place_of places n ≡ Some (record { node = x; held = held }) → IsStepAt seg number (Some (record { node = x; held = held })) (Wants q meta) → NextOfCopy q meta
         of_node (Primary z) held there step = absurd (not_wants q meta step)
         of_node (Replica r) held there step = of_copy r held there (copy_at number r.copies.running) refl step.0
         of_node (Down d) held there step = absurd (not_wants q meta step)
 
-        by : (o : Option (Place D)) → place_of places n ≡ o → IsStepAt seg number o (Wants q meta) → NextOfCopy q meta
+        by : (o : Option (NodePlace D)) → place_of places n ≡ o → IsStepAt seg number o (Wants q meta) → NextOfCopy q meta
         by None there step = absurd (not_wants q meta step)
         by (Some z) there step = of_node z.node z.held there step
 
@@ -298,7 +298,7 @@ module _ {D : Type 0} (cells : D → Cells) (b : Sheet) (board : Board) (places 
     }
 
     -- what it reads is what the name means
-    pub read_means : (q : Name) (meta : FileMetaData) (bytes : List ℕ) (new : List (Option (Place D))) → NextOfCopy q meta → ReadsIn cells p.0 q bytes places new → all.1.source q ≡ Some bytes
+    pub read_means : (q : Name) (meta : FileMetaData) (bytes : List ℕ) (new : List (Option (NodePlace D))) → NextOfCopy q meta → ReadsIn cells p.0 q bytes places new → all.1.source q ≡ Some bytes
     read_means q meta bytes new next read =
         let both = some_at (Both cells all.1.source b.log (λ o. jobs_like places o b.nodes) p.0) (place_of places p.0) (record { node = Primary read.at.parts; held = read.at.held }) read.at.there (both_of cells b.log b.nodes places all.0 all.1 p.0 node_p) in
         let named = (may_read q meta next).out read.at.parts read.at.held read.at.there in

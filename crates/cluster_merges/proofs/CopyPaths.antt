@@ -12,9 +12,9 @@ use Rattle.file_deleter.proofs.NameLemmas.{same_self}
 use Rattle.codec_frame.specs.Bytes.{AreBytes}
 use Rattle.copy_state.specs.declared.meta.FileMetaData.{FileMetaData}
 use Rattle.copy_job.specs.Jobs.{Job}
-use Rattle.primary_state.specs.declared.parts.Parts.{Parts as PrimaryParts}
+use Rattle.primary_state.specs.declared.parts.PrimaryParts.{PrimaryParts}
 use Rattle.primary_state.specs.Primary.{loose_of}
-use Rattle.replica_state.specs.declared.parts.Parts.{Parts as ReplicaParts}
+use Rattle.replica_state.specs.declared.parts.ReplicaParts.{ReplicaParts}
 use Rattle.replica_state.specs.Merges.{copy_at}
 use Rattle.replica_state.specs.Replica.{IsWholeReplica}
 use Rattle.history_rules.specs.Nodes.{IsNode, primary_of}
@@ -26,7 +26,7 @@ use Rattle.merge_tasks.specs.TaskLog.{or_first, carries_as, carried_out}
 use Rattle.merge_tasks.specs.Board.{Board, open_merge, spread_at, has_copy_task}
 use Rattle.merge_tasks.proofs.TaskFrames.{first_stays, tasks_kept}
 use Rattle.cluster_nodes.specs.declared.nodes.Node.TheVariants.{Primary, Replica}
-use Rattle.cluster_nodes.specs.declared.nodes.Place.{Place}
+use Rattle.cluster_nodes.specs.declared.nodes.NodePlace.{NodePlace}
 use Rattle.cluster_nodes.specs.Places.{place_of}
 use Rattle.cluster_nodes.specs.JobPlaces.{ReadsIn}
 use Rattle.node_merges.specs.declared.copies.CopyStep.TheVariants.{Complete, Wants}
@@ -74,7 +74,7 @@ module _ (log : Log) (line : LineNo) (n : NodeNo) (job : ℕ) (name : Name) (byt
 module _ {D : Type 0} (cells : D → Cells) where
   -- ---- a file was read
 
-  pub read_path : (b : Sheet) (board : Board) (old new : List (Option (Place D))) (p : NodeNo) (name : Name) (bytes : List ℕ) → IsNode b.nodes p.0 → ReadsIn cells p.0 name bytes old new → AllShown cells b board old → AllShown cells b board new
+  pub read_path : (b : Sheet) (board : Board) (old new : List (Option (NodePlace D))) (p : NodeNo) (name : Name) (bytes : List ℕ) → IsNode b.nodes p.0 → ReadsIn cells p.0 name bytes old new → AllShown cells b board old → AllShown cells b board new
   read_path b board old new p name bytes node read all = (
     shows_put cells b.nodes b.log old new p.0 x read.moves (primary_place cells b.log p.0 read.at.parts read.primary read.at.held read.alters mine) all.0,
     files_one cells b.nodes b.log b.log old new p.0 x y (grows_none (printed b.log)) (λ q out is. is)
@@ -85,17 +85,17 @@ module _ {D : Type 0} (cells : D → Cells) where
         (λ jobs count low. primary_keeps jobs count read.at.parts read.primary (ap (λ (z : PrimaryParts D). z.merges) read.alters.others) (ap (λ (z : PrimaryParts D). z.has_cut_over) read.alters.others) read.states low) all.2) all.2,
   )
     where
-      x : Place D
+      x : NodePlace D
       x = record { node = Primary read.primary; held = read.at.held }
 
-      y : Place D
+      y : NodePlace D
       y = record { node = Primary read.at.parts; held = read.at.held }
 
       mine : PlaceShows cells b.log p.0 (record { node = Primary read.at.parts; held = read.at.held })
       mine = some_at (PlaceShows cells b.log p.0) (place_of old p.0) (record { node = Primary read.at.parts; held = read.at.held }) read.at.there (all.0.each p.0 node)
 
   -- and handed out
-  pub hand_path : (b0 b2 : Sheet) (board : Board) (old new : List (Option (Place D))) (p : NodeNo) (line : LineNo) (n : NodeNo) (job : ℕ) (name : Name) (bytes : List ℕ) → b2.log ≡ kept (FileOut line n job name bytes None) ∷ b0.log → b2.nodes ≡ b0.nodes → b2.cut ≡ b0.cut
+  pub hand_path : (b0 b2 : Sheet) (board : Board) (old new : List (Option (NodePlace D))) (p : NodeNo) (line : LineNo) (n : NodeNo) (job : ℕ) (name : Name) (bytes : List ℕ) → b2.log ≡ kept (FileOut line n job name bytes None) ∷ b0.log → b2.nodes ≡ b0.nodes → b2.cut ≡ b0.cut
       → IsNode b0.nodes p.0 → ReadsIn cells p.0 name bytes old new → (all : AllShown cells b0 board old) → all.1.source name ≡ Some bytes → AllShown cells b2 board new
   hand_path b0 b2 board old new p line n job name bytes log nodes cut node read all is = read_path b2 board old new p name bytes (subst (λ (k : ℕ). IsNode k p.0) (sym nodes) node) read entry
     where
@@ -107,7 +107,7 @@ module _ {D : Type 0} (cells : D → Cells) where
           (each_still cells b0.log (kept i ∷ b0.log) b0.cut b0.nodes board.rows board.rows old (λ seg inputs told. told) refl all.2.each) (λ none. none) all
           (carried_means b0.log line n job name bytes all.1.source all.1.carried is)
 
-  module _ (b0 b2 : Sheet) (board : Board) (old new : List (Option (Place D))) (all : AllShown cells b0 board old) (p : NodeNo) (node_p : IsNode b0.nodes p.0) (primary : primary_of (printed b0.log) ≡ Some p)
+  module _ (b0 b2 : Sheet) (board : Board) (old new : List (Option (NodePlace D))) (all : AllShown cells b0 board old) (p : NodeNo) (node_p : IsNode b0.nodes p.0) (primary : primary_of (printed b0.log) ≡ Some p)
       (line : LineNo) (seg : SegNo) (n : NodeNo) (job : ℕ) (node : IsNode b0.nodes n.0) where
     -- ---- the next file
 

@@ -31,7 +31,7 @@ use Rattle.merge_tasks.proofs.BoardRows.{line_told, open_with, lines_with, due_p
 use Rattle.merge_tasks.proofs.TaskFrames.{tasks_ended}
 use Rattle.cluster_nodes.specs.declared.nodes.Node.{Node}
 use Rattle.cluster_nodes.specs.declared.nodes.Node.TheVariants.{Primary, Replica, Down}
-use Rattle.cluster_nodes.specs.declared.nodes.Place.{Place}
+use Rattle.cluster_nodes.specs.declared.nodes.NodePlace.{NodePlace}
 use Rattle.cluster_nodes.specs.Places.{place_of}
 use Rattle.cluster_nodes.specs.Outs.{one_like, jobs_like}
 use Rattle.cluster_state.specs.Merging.{AreSentCopies, NodeMerges, IsFitKind, out_at, spreads_like}
@@ -119,7 +119,7 @@ after_fit seg line (s ∷ left) = All-nil (λ (p : Posted). IsFitKind p.kind)
 
 module _ {D : Type 0} (cells : D → Cells) where
   -- a copy to each replica has begun: the task to build the segment ends
-  pub post_path : (b0 b2 : Sheet) (places : List (Option (Place D))) (board new : Board) (line : LineNo) (seg : SegNo) (by : Option At) → b2.log ≡ kept (TaskEnd line seg by MergeStep true) ∷ b0.log → b2.nodes ≡ b0.nodes → b2.cut ≡ b0.cut
+  pub post_path : (b0 b2 : Sheet) (places : List (Option (NodePlace D))) (board new : Board) (line : LineNo) (seg : SegNo) (by : Option At) → b2.log ≡ kept (TaskEnd line seg by MergeStep true) ∷ b0.log → b2.nodes ≡ b0.nodes → b2.cut ≡ b0.cut
       → IsSomeAnd (spread_at (open_merge seg.0 board.rows)) (λ s. (s.all ≡ false) × (length s.left < b0.nodes)) → new.rows ≡ with_spread seg.0 (all_sent (spread_at (open_merge seg.0 board.rows))) board.rows
       → new.posted ≡ (board.posted ++ posts_of seg line (sent_left (spread_at (open_merge seg.0 board.rows)))) ++ post_after seg line (sent_left (spread_at (open_merge seg.0 board.rows)))
       → ((x : At) → done_under x new.counts ≡ done_under x board.counts + counts_one x by) → AllShown cells b0 board places → AllShown cells b2 new places

@@ -14,7 +14,7 @@ use Rattle.seg_reader.specs.Shown.{Shown}
 use Rattle.searcher_switch.specs.declared.open.Open.{Open}
 use Rattle.searcher_switch.specs.Searching.{searcher_names}
 use Rattle.commit_steps.specs.Book.{book_names}
-use Rattle.primary_state.specs.declared.parts.Parts.{Parts as PrimaryParts}
+use Rattle.primary_state.specs.declared.parts.PrimaryParts.{PrimaryParts}
 use Rattle.primary_state.specs.declared.parts.Publish.{Publish}
 use Rattle.primary_state.specs.declared.states.Merging.{Merging}
 use Rattle.primary_state.specs.declared.states.Out.{Out}

@@ -11,7 +11,7 @@ use Rattle.nrt_base.specs.declared.numbers.SegNo.{SegNo}
 use Rattle.disk_model.specs.Disk.{Cells}
 use Rattle.segment_infos.specs.declared.infos.Infos.{Infos}
 use Rattle.seg_merge.specs.declared.task.Merged.{Merged}
-use Rattle.primary_state.specs.declared.parts.Parts.{Parts as PrimaryParts}
+use Rattle.primary_state.specs.declared.parts.PrimaryParts.{PrimaryParts}
 use Rattle.primary_state.specs.declared.states.Merging.{Merging}
 use Rattle.primary_state.specs.declared.states.Out.{Out}
 use Rattle.primary_state.specs.Merges.{merge_of}
@@ -29,10 +29,10 @@ use Rattle.merge_tasks.specs.declared.tasks.Sent.{Sent}
 use Rattle.merge_tasks.specs.declared.tasks.Spread.{Spread}
 use Rattle.merge_tasks.specs.Board.{Board, open_merge, spread_at, without_merge, is_none_left, is_copied, done_under, counts_one, TasksShow}
 use Rattle.merge_tasks.proofs.BoardRows.{line_told, some_open}
-use Rattle.cluster_nodes.specs.declared.held.Held.{Held}
+use Rattle.cluster_nodes.specs.declared.held.HeldTicket.{HeldTicket}
 use Rattle.cluster_nodes.specs.declared.nodes.Node.{Node}
 use Rattle.cluster_nodes.specs.declared.nodes.Node.TheVariants.{Primary, Replica, Down}
-use Rattle.cluster_nodes.specs.declared.nodes.Place.{Place}
+use Rattle.cluster_nodes.specs.declared.nodes.NodePlace.{NodePlace}
 use Rattle.cluster_nodes.specs.Places.{place_of}
 use Rattle.cluster_nodes.specs.Outs.{one_like, states_like, jobs_like}
 use Rattle.cluster_nodes.proofs.OutCounts.{jobs_same, is_there, one_self, states_back}
@@ -108,7 +108,7 @@ out_by rows seg jobs states row s there some low =
 
 -- ---- the call
 
-module _ {D : Type 0} (cells : D → Cells) (r : Run) (old : List (Option (Place D))) (b0 : Sheet) (board : Board) (p : NodeNo) (seg : SegNo) {ended cut : Bool} {calls : List ℕ} {sizes : List (Option ℕ)} {copies : List (List MergedCopy)} {jobs : List JobFiles} {plans : List Plans}
+module _ {D : Type 0} (cells : D → Cells) (r : Run) (old : List (Option (NodePlace D))) (b0 : Sheet) (board : Board) (p : NodeNo) (seg : SegNo) {ended cut : Bool} {calls : List ℕ} {sizes : List (Option ℕ)} {copies : List (List MergedCopy)} {jobs : List JobFiles} {plans : List Plans}
     (view : record { ended = ended; nodes = b0.nodes; log = b0.log; rest = record { calls_left = calls; cut = cut; sizes = sizes; jobs = jobs; copies = copies; tasks = board; plans = plans } } ≡ r) (running : r.ended ≡ false) (all : ended ≡ false → AllShown cells b0 board old)
     (node : IsNode r.nodes p.0) (primary : primary_of (printed r.log) ≡ Some p) (copied : is_copied (spread_at (open_merge seg.0 r.rest.tasks.rows)) ≡ true) (calm : publish_in_flight (printed r.log) ≡ None) where
   was : AllShown cells b0 board old
@@ -158,13 +158,13 @@ module _ {D : Type 0} (cells : D → Cells) (r : Run) (old : List (Option (Place
     started = merge_started b0.nodes b0.log board seg.0 found.0.row found.0.there was.2.tasks
 
     -- what stands in the primary's place
-    shows_at : (q : PrimaryParts D) (held : Vec Held Global) → place_of old p.0 ≡ Some (record { node = Primary q; held = held }) → PlaceShows cells b0.log p.0 (record { node = Primary q; held = held })
+    shows_at : (q : PrimaryParts D) (held : Vec HeldTicket Global) → place_of old p.0 ≡ Some (record { node = Primary q; held = held }) → PlaceShows cells b0.log p.0 (record { node = Primary q; held = held })
     shows_at q held there = some_at (PlaceShows cells b0.log p.0) (place_of old p.0) (record { node = Primary q; held = held }) there (was.0.each p.0 node0)
 
-    merges_at : (q : PrimaryParts D) (held : Vec Held Global) → place_of old p.0 ≡ Some (record { node = Primary q; held = held }) → PrimaryMerges b0.log b0.cut (λ s. jobs_like old s b0.nodes) board.rows q
-    merges_at q held there = some_at (λ (z : Place D). NodeMerges b0.log b0.cut (λ s. jobs_like old s b0.nodes) board.rows p.0 z.node) (place_of old p.0) (record { node = Primary q; held = held }) there (was.2.each p.0 node0)
+    merges_at : (q : PrimaryParts D) (held : Vec HeldTicket Global) → place_of old p.0 ≡ Some (record { node = Primary q; held = held }) → PrimaryMerges b0.log b0.cut (λ s. jobs_like old s b0.nodes) board.rows q
+    merges_at q held there = some_at (λ (z : NodePlace D). NodeMerges b0.log b0.cut (λ s. jobs_like old s b0.nodes) board.rows p.0 z.node) (place_of old p.0) (record { node = Primary q; held = held }) there (was.2.each p.0 node0)
 
-    out_there : (q : PrimaryParts D) (held : Vec Held Global) → place_of old p.0 ≡ Some (record { node = Primary q; held = held }) → is_out (out_of spread.state) q.states ≡ true
+    out_there : (q : PrimaryParts D) (held : Vec HeldTicket Global) → place_of old p.0 ≡ Some (record { node = Primary q; held = held }) → is_out (out_of spread.state) q.states ≡ true
     out_there q held there = out_by board.rows seg.0 (jobs_like old (out_of spread.state) b0.nodes) q.states found.0.row spread found.0.there some ((merges_at q held there).outs (out_of spread.state))
 
     -- the primary may cut the merge over
@@ -179,7 +179,7 @@ module _ {D : Type 0} (cells : D → Cells) (r : Run) (old : List (Option (Place
       };
     }
 
-    module _ (lasting : FilesLast) (new : List (Option (Place D))) (cuts : MovesPrimary (CutsMerge cells seg spread.state) p.0 old new) where
+    module _ (lasting : FilesLast) (new : List (Option (NodePlace D))) (cuts : MovesPrimary (CutsMerge cells seg spread.state) p.0 old new) where
       abbrev q : PrimaryParts D
       q = cuts.at.parts
 

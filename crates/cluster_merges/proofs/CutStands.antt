@@ -15,7 +15,7 @@ use Rattle.copy_job.specs.Jobs.{Job}
 use Rattle.seg_reader.specs.Shown.{Shown}
 use Rattle.segment_infos.specs.declared.infos.Infos.{Infos}
 use Rattle.searcher_switch.specs.declared.open.Open.{Open}
-use Rattle.searcher_switch.specs.declared.open.Point.{Point}
+use Rattle.searcher_switch.specs.declared.open.SearchPoint.{SearchPoint}
 use Rattle.segment_steps.specs.Next.{Turn, stays, staying}
 use Rattle.segment_steps.specs.CutOver.{Part, inputs_in, in_place, lives_of, part_after, merged_turn, merged_turns}
 use Rattle.segment_steps.proofs.CutNumbers.{few_in_place}
@@ -25,7 +25,7 @@ use Rattle.history_rules.specs.Tasks.{merge_count}
 use Rattle.history_book.specs.Log.{Log, printed, kept}
 use Rattle.history_book.specs.declared.inner.Inner.TheVariants.{MergeEnd, TaskEnd}
 use Rattle.history_book.specs.declared.inner.Step.TheVariants.{Cut as CutStep}
-use Rattle.primary_state.specs.declared.parts.Parts.{Parts as PrimaryParts}
+use Rattle.primary_state.specs.declared.parts.PrimaryParts.{PrimaryParts}
 use Rattle.primary_state.specs.declared.states.Merging.{Merging}
 use Rattle.primary_state.specs.declared.states.Out.{Out}
 use Rattle.primary_state.specs.Merges.{merge_of, merges_without, AreOtherMerges, AreApartMerges}
@@ -39,7 +39,7 @@ use Rattle.merge_tasks.specs.TaskLog.{ended_count}
 use Rattle.merge_tasks.specs.Board.{Board, open_merge, spread_at, without_merge, is_sent_in, done_under, counts_one, due_all, IsToldTask, TasksShow}
 use Rattle.merge_tasks.proofs.BoardRows.{open_without, due_closed}
 use Rattle.merge_tasks.proofs.TaskFrames.{told_all, ends_most, tasks_closed}
-use Rattle.cluster_nodes.specs.declared.held.Held.{Held}
+use Rattle.cluster_nodes.specs.declared.held.HeldTicket.{HeldTicket}
 use Rattle.cluster_nodes.specs.declared.nodes.Node.TheVariants.{Primary}
 use Rattle.cluster_nodes.specs.Outs.{one_like, states_like}
 use Rattle.cluster_nodes.proofs.OutCounts.{states_back}
@@ -98,7 +98,7 @@ module _ {D : Type 0} (cells : D → Cells) (log : Log) (n : ℕ) (seg : SegNo) 
     running = was.running;
     primary = was.primary;
     whole = cuts.whole;
-    point = subst (λ (o : Point Shown). IsPointAt (printed log) (version_of n (printed log)) o) (sym (ap (λ (z : PrimaryParts D). z.searchers.point) cuts.others)) was.point;
+    point = subst (λ (o : SearchPoint Shown). IsPointAt (printed log) (version_of n (printed log)) o) (sym (ap (λ (z : PrimaryParts D). z.searchers.point) cuts.others)) was.point;
     writer = cut_writer was.writer;
     waiting = ap (λ (z : PrimaryParts D). z.waiting) cuts.others ∙ was.waiting;
     accepted = ap (λ (z : PrimaryParts D). z.accepted) cuts.others ∙ was.accepted;
@@ -107,7 +107,7 @@ module _ {D : Type 0} (cells : D → Cells) (log : Log) (n : ℕ) (seg : SegNo) 
     flight = subst (λ (o : Option At). FlightShows log o q.publish q.segs) (sym calm) (ap (λ (z : PrimaryParts D). z.publish) cuts.others ∙ subst (λ (o : Option At). FlightShows log o p.publish p.segs) calm was.flight);
   }
 
-  pub cut_place : (held : Vec Held Global) → PlaceShows cells log n (record { node = Primary p; held = held }) → PlaceShows cells log n (record { node = Primary q; held = held })
+  pub cut_place : (held : Vec HeldTicket Global) → PlaceShows cells log n (record { node = Primary p; held = held }) → PlaceShows cells log n (record { node = Primary q; held = held })
   cut_place held was = record {
     node_shows = cut_primary was.node_shows;
     tickets = subst (λ (ts : List (Open Shown)). HoldsTickets (printed log) n ts held.items) (sym (ap (λ (z : PrimaryParts D). z.searchers.tickets) cuts.others)) was.tickets;

@@ -11,7 +11,7 @@ use Rattle.nrt_base.specs.declared.numbers.SegNo.{SegNo}
 use Rattle.disk_model.specs.Disk.{Cells}
 use Rattle.copy_job.specs.Jobs.{Job}
 use Rattle.primary_state.specs.declared.states.Out.{Out}
-use Rattle.replica_state.specs.declared.parts.Parts.{Parts as ReplicaParts}
+use Rattle.replica_state.specs.declared.parts.ReplicaParts.{ReplicaParts}
 use Rattle.replica_state.specs.Merges.{copy_at}
 use Rattle.history_rules.specs.Nodes.{IsNode}
 use Rattle.history_tables.proofs.RowLemmas.{by_test}
@@ -26,10 +26,10 @@ use Rattle.merge_tasks.specs.declared.tasks.Spread.{Spread}
 use Rattle.merge_tasks.specs.Board.{Board, open_merge, spread_at, with_spread, is_sent_in, has_copy_task, without_sent, sent_left, sent_less, post_after, done_under, due_all, IsToldTask, TasksShow}
 use Rattle.merge_tasks.proofs.BoardRows.{line_told, open_with, lines_with, due_settled}
 use Rattle.merge_tasks.proofs.TaskFrames.{tasks_ended}
-use Rattle.cluster_nodes.specs.declared.held.Held.{Held}
+use Rattle.cluster_nodes.specs.declared.held.HeldTicket.{HeldTicket}
 use Rattle.cluster_nodes.specs.declared.nodes.Node.{Node}
 use Rattle.cluster_nodes.specs.declared.nodes.Node.TheVariants.{Primary, Replica, Down}
-use Rattle.cluster_nodes.specs.declared.nodes.Place.{Place}
+use Rattle.cluster_nodes.specs.declared.nodes.NodePlace.{NodePlace}
 use Rattle.cluster_nodes.specs.Places.{place_of}
 use Rattle.cluster_nodes.specs.Outs.{jobs_like}
 use Rattle.cluster_state.specs.Merging.{IsSentCopy, AreSentCopies, NodeMerges, IsFitKind}
@@ -89,11 +89,11 @@ module _ (seg n job : ℕ) (rows : List OpenMerge) (z : IsSpreadRow seg rows) wh
 
 module _ {D : Type 0} (cells : D → Cells) where
   -- no copy of the merge runs at the node under the number
-  abbrev pub IsCopyGone : ℕ → ℕ → ℕ → List OpenMerge → List (Option (Place D)) → Type 0
-  IsCopyGone seg n job rows places = (s : Spread) → spread_at (open_merge seg rows) ≡ Some s → (r : ReplicaParts D) (held : Vec Held Global) → place_of places n ≡ Some (record { node = Replica r; held = held })
+  abbrev pub IsCopyGone : ℕ → ℕ → ℕ → List OpenMerge → List (Option (NodePlace D)) → Type 0
+  IsCopyGone seg n job rows places = (s : Spread) → spread_at (open_merge seg rows) ≡ Some s → (r : ReplicaParts D) (held : Vec HeldTicket Global) → place_of places n ≡ Some (record { node = Replica r; held = held })
       → (c : Job) → copy_at job r.copies.running ≡ Some c → c.want ≡ s.state → ⊥
 
-  pub end_path : (b0 b2 : Sheet) (places : List (Option (Place D))) (board new : Board) (line : LineNo) (seg : SegNo) (by : Option At) (n : NodeNo) (job : ℕ) → EndsCopyOf line seg by n job b0 b2 board new
+  pub end_path : (b0 b2 : Sheet) (places : List (Option (NodePlace D))) (board new : Board) (line : LineNo) (seg : SegNo) (by : Option At) (n : NodeNo) (job : ℕ) → EndsCopyOf line seg by n job b0 b2 board new
       → has_copy_task n.0 job (spread_at (open_merge seg.0 board.rows)) ≡ true → IsCopyGone seg.0 n.0 job board.rows places → AllShown cells b0 board places → AllShown cells b2 new places
   end_path b0 b2 places board new line seg taker n job ends has gone all =
       inside_all cells b0 b2 places board new i ends.log ends.nodes ends.cut (λ at. refl) (λ m. same_inner b0.log i m refl) tasks fit each empty all all.1.carried
@@ -134,7 +134,7 @@ module _ {D : Type 0} (cells : D → Cells) where
       each : (m : ℕ) → IsNode b0.nodes m → IsSomeAnd (place_of places m) (λ z. NodeMerges (kept i ∷ b0.log) b0.cut (λ o. jobs_like places o b0.nodes) new.rows m z.node)
       each m node = at_place (place_of places m) refl (all.2.each m node)
         where
-          at_place : (o : Option (Place D)) → place_of places m ≡ o → IsSomeAnd o (λ z. NodeMerges b0.log b0.cut (λ x. jobs_like places x b0.nodes) board.rows m z.node)
+          at_place : (o : Option (NodePlace D)) → place_of places m ≡ o → IsSomeAnd o (λ z. NodeMerges b0.log b0.cut (λ x. jobs_like places x b0.nodes) board.rows m z.node)
               → IsSomeAnd o (λ z. NodeMerges (kept i ∷ b0.log) b0.cut (λ x. jobs_like places x b0.nodes) new.rows m z.node)
           at_place None there none = absurd none
           at_place (Some y) there is = subst (λ (l : List OpenMerge). NodeMerges (kept i ∷ b0.log) b0.cut jobs l m y.node) (sym rows_are)

@@ -7,7 +7,7 @@ use Rattle.file_deleter.specs.Holdings.{count_of}
 use Rattle.file_deleter.proofs.Keeping.{known_counted}
 use Rattle.searcher_switch.specs.Appearing.{AppearsOnly}
 use Rattle.segment_infos.specs.declared.infos.Infos.{Infos}
-use Rattle.primary_state.specs.declared.parts.Parts.{Parts as PrimaryParts}
+use Rattle.primary_state.specs.declared.parts.PrimaryParts.{PrimaryParts}
 use Rattle.primary_state.specs.declared.states.Out.{Out}
 use Rattle.primary_state.specs.Held.{IsOwnFile}
 use Rattle.primary_state.specs.Primary.{IsPrimary, KeepsHeldBytes, IsUnwritten, loose_of}
@@ -16,9 +16,9 @@ use Rattle.replica_opening.specs.Known.{IsLasting}
 use Rattle.replica_state.specs.Sources.{HeldReadAs}
 use Rattle.history_rules.specs.Nodes.{IsNode, is_at, primary_of}
 use Rattle.history_book.specs.Log.{Log, printed}
-use Rattle.cluster_nodes.specs.declared.held.Held.{Held}
+use Rattle.cluster_nodes.specs.declared.held.HeldTicket.{HeldTicket}
 use Rattle.cluster_nodes.specs.declared.nodes.Node.TheVariants.{Primary}
-use Rattle.cluster_nodes.specs.declared.nodes.Place.{Place}
+use Rattle.cluster_nodes.specs.declared.nodes.NodePlace.{NodePlace}
 use Rattle.cluster_nodes.specs.Places.{place_of}
 use Rattle.cluster_nodes.specs.Outs.{states_like, jobs_like}
 use Rattle.cluster_nodes.specs.JobPlaces.{MovesOne}
@@ -71,13 +71,13 @@ module _ {D : Type 0} (cells : D → Cells) where
         ∙ ap (λ (b : Bool). if b then (cells q.dir name).now else None) (test_none (count_of q.files name) free)
 
   -- the files of a cluster whose primary wrote so
-  pub files_more : (size : ℕ) (log : Log) (old new : List (Option (Place D))) (n : ℕ) (p q : PrimaryParts D) (held : Vec Held Global) → FilesLast → WritesMore p q → HoldsFrom cells (printed log) (Primary p) (Primary q)
+  pub files_more : (size : ℕ) (log : Log) (old new : List (Option (NodePlace D))) (n : ℕ) (p q : PrimaryParts D) (held : Vec HeldTicket Global) → FilesLast → WritesMore p q → HoldsFrom cells (printed log) (Primary p) (Primary q)
       → ((source : Name → Content) → HeldReadAs source (cells p.dir) p.files → HoldsLow source q.files (printed log)) → ((s : Out) → jobs_like old s size ≤ states_like s q.states)
       → ((m : ℕ) → (n == m) ≡ false → is_at (primary_of (printed log)) m ≡ false)
       → MovesOne n (record { node = Primary q; held = held }) old new → IsNode size n → place_of old n ≡ Some (record { node = Primary p; held = held }) → Shows cells log size old → FilesShow cells log size old → FilesShow cells log size new
   files_more size log old new n p q held lasting more holds low outs others moves node there shows files =
-      let x : Place D = record { node = Primary q; held = held } in
-      let y : Place D = record { node = Primary p; held = held } in
+      let x : NodePlace D = record { node = Primary q; held = held } in
+      let y : NodePlace D = record { node = Primary p; held = held } in
       let jobs : (s : Out) → jobs_like new s size ≡ jobs_like old s size = λ s. jobs_same old new s size (λ m within. wants_same n x y old new moves there refl m) in
       let mine = some_at (Both cells files.source log (λ s. jobs_like old s size) n) (place_of old n) y there (both_of cells log size old shows files n node) in
       let wider = widened files.source (cells q.dir) q.files in

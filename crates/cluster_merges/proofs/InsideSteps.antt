@@ -22,7 +22,7 @@ use Rattle.merge_tasks.specs.TaskLog.{carried_out}
 use Rattle.merge_tasks.specs.Board.{Board, open_merge, due_all, step_of, TasksShow, IsToldTask}
 use Rattle.merge_tasks.proofs.BoardRows.{line_told}
 use Rattle.merge_tasks.proofs.TaskFrames.{tasks_kept, tasks_on}
-use Rattle.cluster_nodes.specs.declared.nodes.Place.{Place}
+use Rattle.cluster_nodes.specs.declared.nodes.NodePlace.{NodePlace}
 use Rattle.cluster_nodes.specs.Places.{place_of}
 use Rattle.cluster_nodes.specs.Outs.{jobs_like}
 use Rattle.cluster_state.specs.FileChanges.{SameJob, CarriesNoMore}
@@ -66,7 +66,7 @@ same_carried log line m k name bytes n = record {
 }
 
 module _ {D : Type 0} (cells : D → Cells) where
-  pub all_is : (b now : Sheet) (board : Board) (places : List (Option (Place D))) → now.log ≡ b.log → now.nodes ≡ b.nodes → now.cut ≡ b.cut → AllShown cells b board places → AllShown cells now board places
+  pub all_is : (b now : Sheet) (board : Board) (places : List (Option (NodePlace D))) → now.log ≡ b.log → now.nodes ≡ b.nodes → now.cut ≡ b.cut → AllShown cells b board places → AllShown cells now board places
   all_is b now board places log nodes cut all = (
     now_is cells b.log now.log b.nodes now.nodes places log nodes all.0,
     files_is cells b.log now.log b.nodes now.nodes places log nodes all.1,
@@ -74,7 +74,7 @@ module _ {D : Type 0} (cells : D → Cells) where
   )
 
   -- the nodes have to do with the same rows
-  pub each_still : (log now : Log) (cut : Bool) (size : ℕ) (rows new : List OpenMerge) (places : List (Option (Place D))) → InputsStay log now → new ≡ rows
+  pub each_still : (log now : Log) (cut : Bool) (size : ℕ) (rows new : List OpenMerge) (places : List (Option (NodePlace D))) → InputsStay log now → new ≡ rows
       → ((n : ℕ) → IsNode size n → IsSomeAnd (place_of places n) (λ z. NodeMerges log cut (λ s. jobs_like places s size) rows n z.node))
       → (n : ℕ) → IsNode size n → IsSomeAnd (place_of places n) (λ z. NodeMerges now cut (λ s. jobs_like places s size) new n z.node)
   each_still log now cut size rows new places more same each n node =
@@ -83,7 +83,7 @@ module _ {D : Type 0} (cells : D → Cells) where
       (node_stands log now cut (λ s. jobs_like places s size) (λ s. jobs_like places s size) rows n more z.node z.node (node_keeps (λ s. jobs_like places s size) (λ s. jobs_like places s size) z.node (λ s. omega arith)) is))
 
   -- an entry of inner work of merges that moves no node, beside the board as it is now
-  pub inside_all : (b0 b2 : Sheet) (places : List (Option (Place D))) (board new : Board) (i : Inner) → b2.log ≡ kept i ∷ b0.log → b2.nodes ≡ b0.nodes → b2.cut ≡ b0.cut
+  pub inside_all : (b0 b2 : Sheet) (places : List (Option (NodePlace D))) (board new : Board) (i : Inner) → b2.log ≡ kept i ∷ b0.log → b2.nodes ≡ b0.nodes → b2.cut ≡ b0.cut
       → IsOfJob i → ((n : ℕ) → SameJob b0.log (kept i ∷ b0.log) n) → TasksShow b0.nodes (kept i ∷ b0.log) new → All (λ p. IsFitKind p.kind) new.posted
       → ((n : ℕ) → IsNode b0.nodes n → IsSomeAnd (place_of places n) (λ z. NodeMerges (kept i ∷ b0.log) b0.cut (λ s. jobs_like places s b0.nodes) new.rows n z.node))
       → ((board.posted ≡ []) × (board.rows ≡ []) → (new.posted ≡ []) × (new.rows ≡ [])) → (all : AllShown cells b0 board places)
@@ -101,7 +101,7 @@ module _ {D : Type 0} (cells : D → Cells) where
   )
 
   -- the same where the merges in flight are as they were
-  pub inside_path : (b0 b2 : Sheet) (places : List (Option (Place D))) (board new : Board) (i : Inner) → b2.log ≡ kept i ∷ b0.log → b2.nodes ≡ b0.nodes → b2.cut ≡ b0.cut
+  pub inside_path : (b0 b2 : Sheet) (places : List (Option (NodePlace D))) (board new : Board) (i : Inner) → b2.log ≡ kept i ∷ b0.log → b2.nodes ≡ b0.nodes → b2.cut ≡ b0.cut
       → IsOfJob i → CarriesNoMore b0.log (kept i ∷ b0.log) → ((n : ℕ) → SameJob b0.log (kept i ∷ b0.log) n) → InputsStay b0.log (kept i ∷ b0.log) → TasksShow b0.nodes (kept i ∷ b0.log) new → new.rows ≡ board.rows → All (λ p. IsFitKind p.kind) new.posted
       → ((board.posted ≡ []) × (board.rows ≡ []) → new.posted ≡ []) → AllShown cells b0 board places → AllShown cells b2 new places
   inside_path b0 b2 places board new i log nodes cut of_job no_more same more tasks rows fit empty all =
@@ -110,7 +110,7 @@ module _ {D : Type 0} (cells : D → Cells) where
 
   -- ---- a task that is taken
 
-  pub take_path : (b0 b2 : Sheet) (places : List (Option (Place D))) (board new : Board) (p : Posted) (by : Option At) → b2.log ≡ kept (TaskOut p.line p.seg by (step_of p.kind)) ∷ b0.log → b2.nodes ≡ b0.nodes → b2.cut ≡ b0.cut
+  pub take_path : (b0 b2 : Sheet) (places : List (Option (NodePlace D))) (board new : Board) (p : Posted) (by : Option At) → b2.log ≡ kept (TaskOut p.line p.seg by (step_of p.kind)) ∷ b0.log → b2.nodes ≡ b0.nodes → b2.cut ≡ b0.cut
       → board.posted ≡ p ∷ new.posted → new.rows ≡ board.rows → new.counts ≡ board.counts → AllShown cells b0 board places → AllShown cells b2 new places
   take_path b0 b2 places board new p by log nodes cut first rows counts all =
       inside_path b0 b2 places board new i log nodes cut (λ at. refl) (λ q bytes out. out) (λ n. same_inner b0.log i n refl) (λ seg inputs is. is) tasks rows

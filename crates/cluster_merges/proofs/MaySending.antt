@@ -16,7 +16,7 @@ use Rattle.copy_job.specs.Jobs.{Job as CopyJob}
 use Rattle.seg_merge.specs.declared.task.Merged.{Merged}
 use Rattle.seg_merge.specs.Merging.{IsMergedOf}
 use Rattle.searcher_switch.specs.Searching.{searcher_names}
-use Rattle.primary_state.specs.declared.parts.Parts.{Parts as PrimaryParts}
+use Rattle.primary_state.specs.declared.parts.PrimaryParts.{PrimaryParts}
 use Rattle.primary_state.specs.declared.states.Merging.{Merging}
 use Rattle.primary_state.specs.Held.{part}
 use Rattle.primary_state.specs.Merges.{merge_of, IsMade, IsMadeBy, IsMerging}
@@ -27,7 +27,7 @@ use Rattle.primary_state.proofs.MergeLists.{all_at as merge_has, loose_at, unfil
 use Rattle.primary_merges.proofs.MergedFiles.{part_among, merged_names}
 use Rattle.replica_opening.specs.Known.{IsLasting}
 use Rattle.replica_state.specs.declared.job.PointJob.{PointJob}
-use Rattle.replica_state.specs.declared.parts.Parts.{Parts as ReplicaParts}
+use Rattle.replica_state.specs.declared.parts.ReplicaParts.{ReplicaParts}
 use Rattle.replica_state.specs.Merges.{copy_at, running_names, copies_names, CopyApart, AreCopiesApart, SharesNone}
 use Rattle.replica_state.specs.Replica.{IsWholeReplica, names_of_job, copying_names, replica_names}
 use Rattle.replica_state.specs.Sources.{HeldReadAs}

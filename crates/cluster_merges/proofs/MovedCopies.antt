@@ -12,12 +12,12 @@ use Rattle.file_names.specs.Names.{temp_name_of}
 use Rattle.segment_infos.specs.declared.infos.Infos.{Infos}
 use Rattle.seg_reader.specs.Shown.{Shown}
 use Rattle.searcher_switch.specs.declared.open.Open.{Open}
-use Rattle.searcher_switch.specs.declared.open.Point.{Point}
+use Rattle.searcher_switch.specs.declared.open.SearchPoint.{SearchPoint}
 use Rattle.searcher_switch.specs.declared.searchers.Searchers.{Searchers}
 use Rattle.primary_state.specs.declared.states.Out.{Out}
 use Rattle.replica_state.specs.declared.job.PointJob.{PointJob}
 use Rattle.replica_state.specs.declared.merges.MergeCopies.{MergeCopies}
-use Rattle.replica_state.specs.declared.parts.Parts.{Parts as ReplicaParts}
+use Rattle.replica_state.specs.declared.parts.ReplicaParts.{ReplicaParts}
 use Rattle.replica_state.specs.Merges.{copy_at, copies_with, copies_without}
 use Rattle.replica_state.specs.Replica.{IsWholeReplica, AreStanding, IsMergeCopy}
 use Rattle.replica_state.specs.Sources.{IsSourced}
@@ -29,9 +29,9 @@ use Rattle.history_book.specs.Log.{Log, printed}
 use Rattle.history_book.specs.Jobs.{job_at}
 use Rattle.merge_tasks.specs.Merging.{Sheet}
 use Rattle.merge_tasks.specs.Board.{Board}
-use Rattle.cluster_nodes.specs.declared.held.Held.{Held}
+use Rattle.cluster_nodes.specs.declared.held.HeldTicket.{HeldTicket}
 use Rattle.cluster_nodes.specs.declared.nodes.Node.TheVariants.{Replica}
-use Rattle.cluster_nodes.specs.declared.nodes.Place.{Place}
+use Rattle.cluster_nodes.specs.declared.nodes.NodePlace.{NodePlace}
 use Rattle.cluster_nodes.specs.Places.{place_of}
 use Rattle.cluster_nodes.specs.Outs.{want_of, jobs_like}
 use Rattle.cluster_nodes.specs.JobPlaces.{MovesOne}
@@ -68,7 +68,7 @@ module _ {D : Type 0} (cells : D → Cells) where
     pub appears : AppearsOnly (MayHaveName past) (cells r.dir) (cells s.dir)
     pub runs : RunsNoOther r.copies.running s.copies.running
 
-  module _ (size : ℕ) (log : Log) (old new : List (Option (Place D))) (n : ℕ) (r s : ReplicaParts D) (held : Vec Held Global) (moves : MovesOne n (record { node = Replica s; held = held }) old new) (node : IsNode size n)
+  module _ (size : ℕ) (log : Log) (old new : List (Option (NodePlace D))) (n : ℕ) (r s : ReplicaParts D) (held : Vec HeldTicket Global) (moves : MovesOne n (record { node = Replica s; held = held }) old new) (node : IsNode size n)
       (there : place_of old n ≡ Some (record { node = Replica r; held = held })) (shows : Shows cells log size old) (files : FilesShow cells log size old) (w : MovesCopies files.source (printed log) r s) where
     place_moved : PlaceShows cells log n (record { node = Replica r; held = held }) → PlaceShows cells log n (record { node = Replica s; held = held })
     place_moved was = record {
@@ -77,7 +77,7 @@ module _ {D : Type 0} (cells : D → Cells) where
         other = was.node_shows.other;
         whole = w.whole;
         standing = w.standing was.node_shows.standing;
-        point = subst (λ (z : Point Shown). IsPointAt (printed log) (version_of n (printed log)) z) (sym (ap (λ (z : Searchers Shown). z.point) w.searchers)) was.node_shows.point;
+        point = subst (λ (z : SearchPoint Shown). IsPointAt (printed log) (version_of n (printed log)) z) (sym (ap (λ (z : Searchers Shown). z.point) w.searchers)) was.node_shows.point;
         seen = (let low = was.node_shows.seen in let same_seen = w.seen in omega (arith, low, same_seen));
       };
       tickets = subst (λ (ts : List (Open Shown)). HoldsTickets (printed log) n ts held.items) (sym (ap (λ (z : Searchers Shown). z.tickets) w.searchers)) was.tickets;
@@ -99,10 +99,10 @@ module _ {D : Type 0} (cells : D → Cells) where
       carried = files.carried;
     }
       where
-        x : Place D
+        x : NodePlace D
         x = record { node = Replica s; held = held }
 
-        y : Place D
+        y : NodePlace D
         y = record { node = Replica r; held = held }
 
         jobs : Out → ℕ
@@ -133,7 +133,7 @@ module _ {D : Type 0} (cells : D → Cells) where
         }
 
   -- all of it
-  pub copies_path : (b : Sheet) (board : Board) (old new : List (Option (Place D))) (n : ℕ) (r s : ReplicaParts D) (held : Vec Held Global) → MovesOne n (record { node = Replica s; held = held }) old new → IsNode b.nodes n
+  pub copies_path : (b : Sheet) (board : Board) (old new : List (Option (NodePlace D))) (n : ℕ) (r s : ReplicaParts D) (held : Vec HeldTicket Global) → MovesOne n (record { node = Replica s; held = held }) old new → IsNode b.nodes n
       → place_of old n ≡ Some (record { node = Replica r; held = held }) → (all : AllShown cells b board old) → MovesCopies all.1.source (printed b.log) r s → AllShown cells b board new
   copies_path b board old new n r s held moves node there all w = (
     moved_shows b.nodes b.log old new n r s held moves node there all.0 all.1 w,

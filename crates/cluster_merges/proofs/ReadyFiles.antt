@@ -15,9 +15,9 @@ use Rattle.seg_merge.specs.declared.task.MergeTask.{MergeTask}
 use Rattle.seg_merge.specs.declared.task.Merged.{Merged}
 use Rattle.seg_merge.specs.Merging.{IsMergedOf}
 use Rattle.searcher_switch.specs.declared.open.Open.{Open}
-use Rattle.searcher_switch.specs.declared.open.Point.{Point}
+use Rattle.searcher_switch.specs.declared.open.SearchPoint.{SearchPoint}
 use Rattle.searcher_switch.specs.Searching.{searcher_names}
-use Rattle.primary_state.specs.declared.parts.Parts.{Parts as PrimaryParts}
+use Rattle.primary_state.specs.declared.parts.PrimaryParts.{PrimaryParts}
 use Rattle.primary_state.specs.declared.parts.Publish.{Publish}
 use Rattle.primary_state.specs.declared.states.Merging.{Merging}
 use Rattle.primary_state.specs.declared.states.Out.{Out}
@@ -31,9 +31,9 @@ use Rattle.replica_state.specs.Sources.{HeldReadAs}
 use Rattle.history_rules.specs.Nodes.{Past, IsNode, version_of}
 use Rattle.history_rules.specs.Lines.{publish_in_flight}
 use Rattle.history_book.specs.Log.{Log, printed}
-use Rattle.cluster_nodes.specs.declared.held.Held.{Held}
+use Rattle.cluster_nodes.specs.declared.held.HeldTicket.{HeldTicket}
 use Rattle.cluster_nodes.specs.declared.nodes.Node.TheVariants.{Primary}
-use Rattle.cluster_nodes.specs.declared.nodes.Place.{Place}
+use Rattle.cluster_nodes.specs.declared.nodes.NodePlace.{NodePlace}
 use Rattle.cluster_nodes.specs.Places.{place_of}
 use Rattle.cluster_nodes.specs.Outs.{states_like}
 use Rattle.cluster_nodes.specs.JobPlaces.{MovesOne}
@@ -118,7 +118,7 @@ module _ {D : Type 0} (cells : D → Cells) where
     running = was.running;
     primary = was.primary;
     whole = w.whole;
-    point = subst (λ (z : Point Shown). IsPointAt (printed log) (version_of n (printed log)) z) (sym (ap (λ (z : PrimaryParts D). z.searchers.point) w.others)) was.point;
+    point = subst (λ (z : SearchPoint Shown). IsPointAt (printed log) (version_of n (printed log)) z) (sym (ap (λ (z : PrimaryParts D). z.searchers.point) w.others)) was.point;
     writer = subst (λ (z : Infos × List Shown). WritesAt (printed log) z.0 z.1) (λ i. (sym (ap (λ (z : PrimaryParts D). z.infos) w.others) i, sym (ap (λ (z : PrimaryParts D). z.segs) w.others) i)) was.writer;
     waiting = ap (λ (z : PrimaryParts D). z.waiting) w.others ∙ was.waiting;
     accepted = ap (λ (z : PrimaryParts D). z.accepted) w.others ∙ was.accepted;
@@ -130,7 +130,7 @@ module _ {D : Type 0} (cells : D → Cells) where
       no_merge : None ≡ Some w.merges.m → ⊥
       no_merge e = absurd (cc)
 
-  pub shows_written : (size : ℕ) (log : Log) (old new : List (Option (Place D))) (n : ℕ) (merged : Merged) (state : CopyState) (p q : PrimaryParts D) (held : Vec Held Global)
+  pub shows_written : (size : ℕ) (log : Log) (old new : List (Option (NodePlace D))) (n : ℕ) (merged : Merged) (state : CopyState) (p q : PrimaryParts D) (held : Vec HeldTicket Global)
       → MovesOne n (record { node = Primary q; held = held }) old new → IsNode size n → place_of old n ≡ Some (record { node = Primary p; held = held }) → ReadiesMerge cells merged state p q → Shows cells log size old → Shows cells log size new
   shows_written size log old new n merged state p q held moves node there w was = record {
     some = was.some;

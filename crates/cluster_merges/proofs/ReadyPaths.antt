@@ -17,7 +17,7 @@ use Rattle.copy_state.specs.States.{meta_names, IsCopyState}
 use Rattle.seg_merge.specs.declared.task.MergeTask.{MergeTask}
 use Rattle.seg_merge.specs.declared.task.Merged.{Merged}
 use Rattle.seg_merge.specs.Merging.{IsMergedOf}
-use Rattle.primary_state.specs.declared.parts.Parts.{Parts as PrimaryParts}
+use Rattle.primary_state.specs.declared.parts.PrimaryParts.{PrimaryParts}
 use Rattle.primary_state.specs.declared.states.Merging.{Merging}
 use Rattle.primary_state.specs.declared.states.Out.{Out}
 use Rattle.primary_state.specs.Merges.{merge_of, merge_loose}
@@ -26,7 +26,7 @@ use Rattle.primary_state.specs.Primary.{publish_loose, loose_of}
 use Rattle.primary_state.proofs.MergeLists.{loose_with}
 use Rattle.primary_merges.specs.MergeCalls.{IsMadeFor}
 use Rattle.primary_merges.proofs.MergedFiles.{merged_names}
-use Rattle.replica_state.specs.declared.parts.Parts.{Parts as ReplicaParts}
+use Rattle.replica_state.specs.declared.parts.ReplicaParts.{ReplicaParts}
 use Rattle.replica_state.specs.Merges.{SharesNone}
 use Rattle.replica_state.specs.Sources.{HeldReadAs}
 use Rattle.history_rules.specs.Nodes.{IsNode, IsReplica, is_at, primary_of, generation_of}
@@ -43,10 +43,10 @@ use Rattle.merge_tasks.specs.declared.tasks.Spread.{Spread}
 use Rattle.merge_tasks.specs.TaskLog.{inputs_out, merge_task}
 use Rattle.merge_tasks.specs.Board.{Board, open_merge, spread_at, with_spread, is_unwritten, all_sent, sent_left, posts_of, post_after, done_under, counts_one}
 use Rattle.merge_tasks.proofs.BoardRows.{open_with, with_last}
-use Rattle.cluster_nodes.specs.declared.held.Held.{Held}
+use Rattle.cluster_nodes.specs.declared.held.HeldTicket.{HeldTicket}
 use Rattle.cluster_nodes.specs.declared.nodes.Node.{Node}
 use Rattle.cluster_nodes.specs.declared.nodes.Node.TheVariants.{Primary, Replica, Down}
-use Rattle.cluster_nodes.specs.declared.nodes.Place.{Place}
+use Rattle.cluster_nodes.specs.declared.nodes.NodePlace.{NodePlace}
 use Rattle.cluster_nodes.specs.Places.{place_of}
 use Rattle.cluster_nodes.specs.JobChanges.{HasReplica}
 use Rattle.cluster_nodes.specs.Outs.{states_like, jobs_like}
@@ -101,7 +101,7 @@ unwritten_row seg rows is = by (open_merge seg rows) refl is
     by None e is = absurd (true≢false (sym is))
     by (Some r) e is = of_row r e r.spread refl is
 
-module _ {D : Type 0} (cells : D → Cells) (r : Run) (b : Sheet) (board : Board) (old : List (Option (Place D))) (p : NodeNo) (seg : SegNo) (merged : Merged) {was cut : Bool} {calls : List ℕ} {sizes : List (Option ℕ)} {copies : List (List MergedCopy)} {jobs : List JobFiles} {plans : List Plans}
+module _ {D : Type 0} (cells : D → Cells) (r : Run) (b : Sheet) (board : Board) (old : List (Option (NodePlace D))) (p : NodeNo) (seg : SegNo) (merged : Merged) {was cut : Bool} {calls : List ℕ} {sizes : List (Option ℕ)} {copies : List (List MergedCopy)} {jobs : List JobFiles} {plans : List Plans}
     (view : record { ended = was; nodes = b.nodes; log = b.log; rest = record { calls_left = calls; cut = cut; sizes = sizes; jobs = jobs; copies = copies; tasks = board; plans = plans } } ≡ r) (running : r.ended ≡ false) (invariant : was ≡ false → AllShown cells b board old)
     (asked_node : IsNode r.nodes p.0) (asked_primary : primary_of (printed r.log) ≡ Some p) (asked_row : is_unwritten (open_merge seg.0 r.rest.tasks.rows) ≡ true) (asked_merged : IsMergedOut r.log seg merged) where
   all : AllShown cells b board old
@@ -155,7 +155,7 @@ module _ {D : Type 0} (cells : D → Cells) (r : Run) (b : Sheet) (board : Board
           task : m.task ≡ merge_task seg out.inputs
           task = is.task ∙ λ i. merge_task (record { 0 = same i }) (inputs i)
 
-  merges_at : (q : PrimaryParts D) (held : Vec Held Global) → place_of old p.0 ≡ Some (record { node = Primary q; held = held }) → PrimaryMerges b.log b.cut (λ s. jobs_like old s b.nodes) board.rows q
+  merges_at : (q : PrimaryParts D) (held : Vec HeldTicket Global) → place_of old p.0 ≡ Some (record { node = Primary q; held = held }) → PrimaryMerges b.log b.cut (λ s. jobs_like old s b.nodes) board.rows q
   merges_at q held there = some_at (λ z. NodeMerges b.log b.cut (λ s. jobs_like old s b.nodes) board.rows p.0 z.node) (place_of old p.0) (record { node = Primary q; held = held }) there (all.2.each p.0 node)
 
   pub can_ready : IsPrimaryIn (λ q. IsMadeFor q merged) p.0 old
@@ -170,12 +170,12 @@ module _ {D : Type 0} (cells : D → Cells) (r : Run) (b : Sheet) (board : Board
   replica_there : (n : ℕ) → IsNode b.nodes n → IsReplica (printed b.log) n → HasReplica (place_of old n)
   replica_there n at is = by (place_of old n) (all.0.each n at)
     where
-      of_node : (x : Node D) (held : Vec Held Global) → NodeShows cells b.log n x → HasReplica (Some (record { node = x; held = held }))
+      of_node : (x : Node D) (held : Vec HeldTicket Global) → NodeShows cells b.log n x → HasReplica (Some (record { node = x; held = held }))
       of_node (Primary q) held showing = absurd (true≢false (sym showing.primary ∙ is.other))
       of_node (Replica r) held showing = tt
       of_node (Down d) held showing = absurd (true≢false (sym is.running ∙ showing.down))
 
-      by : (o : Option (Place D)) → IsSomeAnd o (PlaceShows cells b.log n) → HasReplica o
+      by : (o : Option (NodePlace D)) → IsSomeAnd o (PlaceShows cells b.log n) → HasReplica o
       by None none = absurd none
       by (Some z) shown = of_node z.node z.held shown.node_shows
 
@@ -184,7 +184,7 @@ module _ {D : Type 0} (cells : D → Cells) (r : Run) (b : Sheet) (board : Board
 
   -- ---- once the files are written
 
-  module _ (state : CopyState) (new : List (Option (Place D))) (moved : MovesPrimary (ReadiesMerge cells merged state) p.0 old new) where
+  module _ (state : CopyState) (new : List (Option (NodePlace D))) (moved : MovesPrimary (ReadiesMerge cells merged state) p.0 old new) where
     abbrev q : PrimaryParts D
     q = moved.at.parts
 
@@ -216,7 +216,7 @@ module _ {D : Type 0} (cells : D → Cells) (r : Run) (b : Sheet) (board : Board
     means = merged_means cells q shows.whole merged moved.step.merges.m moved.step.merges.found made.0 made.1 all.1.source files.unwritten
 
     -- it can be sent to a replica
-    may_send : (n : ℕ) (r : ReplicaParts D) (held : Vec Held Global) → IsNode b.nodes n → place_of old n ≡ Some (record { node = Replica r; held = held }) → MaySend state r
+    may_send : (n : ℕ) (r : ReplicaParts D) (held : Vec HeldTicket Global) → IsNode b.nodes n → place_of old n ≡ Some (record { node = Replica r; held = held }) → MaySend state r
     may_send n r held at there = record {
       seen = let low = mine.seen in let is = generation in omega (arith, low, is);
       segment = record { seg = merged.files.seg; numbered = small; files = moved.step.of_merged.names_are ∙ merged_names moved.step.merges.m.task merged made.1 };
@@ -254,7 +254,7 @@ module _ {D : Type 0} (cells : D → Cells) (r : Run) (b : Sheet) (board : Board
           may_one : (n : NodeNo) → IsNode b.nodes n.0 × IsReplica (printed b.log) n.0 → IsReplicaIn (MaySend state) n.0 new
           may_one n is = record {
             slot = (is.0.0, subst (λ (k : ℕ). n.0 ≤ k) (sym (moved.moves.count ∙ all.0.count)) is.0.1);
-            replica = subst (λ (o : Option (Place D)). HasReplica o) (sym same) (replica_there n.0 is.0 is.1);
+            replica = subst (λ (o : Option (NodePlace D)). HasReplica o) (sym same) (replica_there n.0 is.0 is.1);
             may = λ r held there. may_send n.0 r held is.0 (sym same ∙ there);
           }
             where
@@ -286,7 +286,7 @@ module _ {D : Type 0} (cells : D → Cells) (r : Run) (b : Sheet) (board : Board
             outs : (o : Out) → jobs_like old o b.nodes ≤ states_like o s.states
             outs o = let least = files.outs o in let more = written_outs cells merged state q s moved.step o in omega (arith, least, more)
 
-        module _ (sent : List Sent) (last : Board) (places : List (Option (Place D))) (sends : SendsAll cells seg.0 copy nodes sent after last new places) where
+        module _ (sent : List Sent) (last : Board) (places : List (Option (NodePlace D))) (sends : SendsAll cells seg.0 copy nodes sent after last new places) where
           -- the row has the copies
           sent_at : spread_at (open_merge seg.0 last.rows) ≡ Some (spread_to copy sent)
           sent_at = spread_with after.rows last.rows seg.0 (spread_to copy []) (spread_to copy sent) written_at sends.rows

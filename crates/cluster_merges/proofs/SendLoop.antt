@@ -17,7 +17,7 @@ use Rattle.merge_tasks.specs.declared.tasks.Spread.{Spread}
 use Rattle.merge_tasks.specs.Board.{Board, open_merge, spread_at, with_spread, sent_more}
 use Rattle.merge_tasks.proofs.BoardRows.{with_last}
 use Rattle.cluster_nodes.specs.declared.nodes.Node.TheVariants.{Replica}
-use Rattle.cluster_nodes.specs.declared.nodes.Place.{Place}
+use Rattle.cluster_nodes.specs.declared.nodes.NodePlace.{NodePlace}
 use Rattle.cluster_nodes.specs.Places.{place_of}
 use Rattle.cluster_nodes.specs.JobChanges.{HasReplica}
 use Rattle.node_merges.specs.MergeChanges.{MaySend}
@@ -67,7 +67,7 @@ rows_more rows mid new seg state n one sent now there was is node pushed =
 
 module _ {D : Type 0} (cells : D → Cells) where
   -- copies to the first of these nodes have begun
-  pub record SendsUpTo (seg : ℕ) (state : CopyState) (nodes : List NodeNo) (i : ℕ) (sent : List Sent) (board after : Board) (old new : List (Option (Place D))) : Type 0 where
+  pub record SendsUpTo (seg : ℕ) (state : CopyState) (nodes : List NodeNo) (i : ℕ) (sent : List Sent) (board after : Board) (old new : List (Option (NodePlace D))) : Type 0 where
     pub to : map (λ s. s.node) sent ≡ take i nodes
     pub rows : after.rows ≡ with_spread seg (Some (spread_to state sent)) board.rows
     pub posted : after.posted ≡ board.posted
@@ -76,7 +76,7 @@ module _ {D : Type 0} (cells : D → Cells) where
     pub others : (k : ℕ) (d : NodeNo) → i ≤ k → k < length nodes → place_of new (get_or nodes k d).0 ≡ place_of old (get_or nodes k d).0
     pub shown : (b : Sheet) → state.primary_gen.0 ≡ generation_of (printed b.log) → All (λ n. IsNode b.nodes n.0) nodes → AllShown cells b board old → AllShown cells b after new
 
-  module _ (seg : ℕ) (state : CopyState) (nodes : List NodeNo) (board : Board) (old : List (Option (Place D))) (may : MaySendAll state nodes old) (written : spread_at (open_merge seg board.rows) ≡ Some (spread_to state [])) where
+  module _ (seg : ℕ) (state : CopyState) (nodes : List NodeNo) (board : Board) (old : List (Option (NodePlace D))) (may : MaySendAll state nodes old) (written : spread_at (open_merge seg board.rows) ≡ Some (spread_to state [])) where
     pub none_yet : (sent : List Sent) → sent ≡ [] → SendsUpTo seg state nodes 0 sent board board old old
     none_yet sent none = record {
       to = ap (λ (l : List Sent). map (λ (s : Sent). s.node) l) none;
@@ -88,7 +88,7 @@ module _ {D : Type 0} (cells : D → Cells) where
       shown = λ b generation all_nodes all. all;
     }
 
-    module _ (i : ℕ) (sent : List Sent) (mid : Board) (p : List (Option (Place D))) (was : SendsUpTo seg state nodes i sent board mid old p) where
+    module _ (i : ℕ) (sent : List Sent) (mid : Board) (p : List (Option (NodePlace D))) (was : SendsUpTo seg state nodes i sent board mid old p) where
       -- the row has them
       pub row_there : spread_at (open_merge seg mid.rows) ≡ Some (spread_to state sent)
       row_there = spread_with board.rows mid.rows seg (spread_to state []) (spread_to state sent) written was.rows
@@ -97,7 +97,7 @@ module _ {D : Type 0} (cells : D → Cells) where
       pub may_next : (n d : NodeNo) → i < length nodes → n ≡ get_or nodes i d → IsReplicaIn (MaySend state) n.0 p
       may_next n d within is = record {
         slot = (mine.slot.0, subst (λ (k : ℕ). n.0 ≤ k) (sym was.count) mine.slot.1);
-        replica = subst (λ (o : Option (Place D)). HasReplica o) (sym same) mine.replica;
+        replica = subst (λ (o : Option (NodePlace D)). HasReplica o) (sym same) mine.replica;
         may = λ r held there. mine.may r held (sym same ∙ there);
       }
         where
@@ -108,7 +108,7 @@ module _ {D : Type 0} (cells : D → Cells) where
           same = ap (λ (m : NodeNo). place_of p m.0) is ∙ (was.others i d (omega arith) within ∙ ap (λ (m : NodeNo). place_of old m.0) (sym is))
 
       -- it has
-      pub sent_next : (n d : NodeNo) (one : Sent) (now : List Sent) (after : Board) (new : List (Option (Place D))) → i < length nodes → n ≡ get_or nodes i d → SendsOne cells seg state n one mid after p new → now ≡ sent ++ one ∷ []
+      pub sent_next : (n d : NodeNo) (one : Sent) (now : List Sent) (after : Board) (new : List (Option (NodePlace D))) → i < length nodes → n ≡ get_or nodes i d → SendsOne cells seg state n one mid after p new → now ≡ sent ++ one ∷ []
           → SendsUpTo seg state nodes (i + 1) now board after old new
       sent_next n d one now after new within is sends pushed = record {
         to = ap (λ (l : List Sent). map (λ (s : Sent). s.node) l) pushed ∙ (map-append (λ (s : Sent). s.node) sent (one ∷ [])

@@ -14,10 +14,10 @@ use Rattle.copy_job.specs.Jobs.{Job}
 use Rattle.segment_infos.specs.declared.infos.Infos.{Infos}
 use Rattle.seg_reader.specs.Shown.{Shown}
 use Rattle.searcher_switch.specs.declared.open.Open.{Open}
-use Rattle.searcher_switch.specs.declared.open.Point.{Point}
+use Rattle.searcher_switch.specs.declared.open.SearchPoint.{SearchPoint}
 use Rattle.primary_state.specs.declared.states.Out.{Out}
 use Rattle.replica_state.specs.declared.job.PointJob.{PointJob}
-use Rattle.replica_state.specs.declared.parts.Parts.{Parts as ReplicaParts}
+use Rattle.replica_state.specs.declared.parts.ReplicaParts.{ReplicaParts}
 use Rattle.replica_state.specs.declared.merges.MergeCopies.{MergeCopies}
 use Rattle.replica_state.specs.Merges.{copy_at, copies_seen, no_copies}
 use Rattle.replica_state.specs.Jobs.{merge_job_on}
@@ -34,10 +34,10 @@ use Rattle.merge_tasks.specs.declared.tasks.Spread.{Spread}
 use Rattle.merge_tasks.specs.Board.{Board, open_merge, spread_at, with_spread, is_sent_in, sent_more, due_all, IsToldTask}
 use Rattle.merge_tasks.proofs.BoardRows.{line_told, open_with, lines_with, due_sent}
 use Rattle.merge_tasks.proofs.TaskFrames.{tasks_kept, tasks_on}
-use Rattle.cluster_nodes.specs.declared.held.Held.{Held}
+use Rattle.cluster_nodes.specs.declared.held.HeldTicket.{HeldTicket}
 use Rattle.cluster_nodes.specs.declared.nodes.Node.{Node}
 use Rattle.cluster_nodes.specs.declared.nodes.Node.TheVariants.{Replica}
-use Rattle.cluster_nodes.specs.declared.nodes.Place.{Place}
+use Rattle.cluster_nodes.specs.declared.nodes.NodePlace.{NodePlace}
 use Rattle.cluster_nodes.specs.Places.{place_of}
 use Rattle.cluster_nodes.specs.Outs.{want_of, jobs_like}
 use Rattle.cluster_nodes.specs.JobPlaces.{MovesOne}
@@ -108,7 +108,7 @@ module _ {D : Type 0} (cells : D → Cells) where
     flight = was.flight;
   }
 
-  module _ (size : ℕ) (log : Log) (old new : List (Option (Place D))) (n number : ℕ) (state : CopyState) (r s : ReplicaParts D) (held : Vec Held Global) (moves : MovesOne n (record { node = Replica s; held = held }) old new) (node : IsNode size n)
+  module _ (size : ℕ) (log : Log) (old new : List (Option (NodePlace D))) (n number : ℕ) (state : CopyState) (r s : ReplicaParts D) (held : Vec HeldTicket Global) (moves : MovesOne n (record { node = Replica s; held = held }) old new) (node : IsNode size n)
       (there : place_of old n ≡ Some (record { node = Replica r; held = held })) (w : SendsMerged cells state number r s) (shows : Shows cells log size old) where
     sent_shows : state.primary_gen.0 ≡ generation_of (printed log) → Shows cells log size new
     sent_shows generation = record {
@@ -120,7 +120,7 @@ module _ {D : Type 0} (cells : D → Cells) where
           other = mine.node_shows.other;
           whole = w.whole;
           standing = w.standing mine.node_shows.standing;
-          point = subst (λ (z : Point Shown). IsPointAt (printed log) (version_of n (printed log)) z) (sym (ap (λ (z : ReplicaParts D). z.searchers.point) w.others)) mine.node_shows.point;
+          point = subst (λ (z : SearchPoint Shown). IsPointAt (printed log) (version_of n (printed log)) z) (sym (ap (λ (z : ReplicaParts D). z.searchers.point) w.others)) mine.node_shows.point;
           seen = let is : s.seen.0 ≡ state.primary_gen.0 = ap (λ (g : Gen). g.0) w.seen in omega (arith, is, generation);
         };
         tickets = subst (λ (ts : List (Open Shown)). HoldsTickets (printed log) n ts held.items) (sym (ap (λ (z : ReplicaParts D). z.searchers.tickets) w.others)) mine.tickets;
@@ -136,8 +136,8 @@ module _ {D : Type 0} (cells : D → Cells) where
 
     sent_files : FilesShow cells log size old → FilesShow cells log size new
     sent_files files =
-        let x : Place D = record { node = Replica s; held = held } in
-        let y : Place D = record { node = Replica r; held = held } in
+        let x : NodePlace D = record { node = Replica s; held = held } in
+        let y : NodePlace D = record { node = Replica r; held = held } in
         let jobs : (o : Out) → jobs_like new o size ≡ jobs_like old o size = λ o. jobs_same old new o size (λ m within. wants_same n x y old new moves there job_same m) in
         let mine = some_at (Both cells files.source log (λ o. jobs_like old o size) n) (place_of old n) y there (both_of cells log size old shows files n node) in
         let steps : NodeSteps cells (printed log) (Replica r) (Replica s) = record {
@@ -157,7 +157,7 @@ module _ {D : Type 0} (cells : D → Cells) where
         }
 
   -- all of it
-  pub sent_path : (b : Sheet) (old new : List (Option (Place D))) (board after : Board) (seg : ℕ) (n : NodeNo) (number : ℕ) (state : CopyState) (r s : ReplicaParts D) (held : Vec Held Global)
+  pub sent_path : (b : Sheet) (old new : List (Option (NodePlace D))) (board after : Board) (seg : ℕ) (n : NodeNo) (number : ℕ) (state : CopyState) (r s : ReplicaParts D) (held : Vec HeldTicket Global)
       → MovesOne n.0 (record { node = Replica s; held = held }) old new → IsNode b.nodes n.0 → place_of old n.0 ≡ Some (record { node = Replica r; held = held }) → SendsMerged cells state number r s → state.primary_gen.0 ≡ generation_of (printed b.log)
       → IsSomeAnd (spread_at (open_merge seg board.rows)) (λ z. (z.state ≡ state) × (z.all ≡ false)) → after.rows ≡ with_spread seg (sent_more n number (spread_at (open_merge seg board.rows))) board.rows → after.posted ≡ board.posted → after.counts ≡ board.counts
       → AllShown cells b board old → AllShown cells b after new
@@ -235,7 +235,7 @@ begun_last line sent i log new end was = was ∙ ap (λ (l : List Sent). begun_l
 
 module _ {D : Type 0} (cells : D → Cells) where
   -- that a copy has begun is noted
-  begun_path : (b0 b2 : Sheet) (places : List (Option (Place D))) (board : Board) (line : LineNo) (s : Sent) → b2.log ≡ kept (JobBegun line s.node s.job None None) ∷ b0.log → b2.nodes ≡ b0.nodes → b2.cut ≡ b0.cut
+  begun_path : (b0 b2 : Sheet) (places : List (Option (NodePlace D))) (board : Board) (line : LineNo) (s : Sent) → b2.log ≡ kept (JobBegun line s.node s.job None None) ∷ b0.log → b2.nodes ≡ b0.nodes → b2.cut ≡ b0.cut
       → AllShown cells b0 board places → AllShown cells b2 board places
   begun_path b0 b2 places board line s log nodes cut all =
       inside_path cells b0 b2 places board board i log nodes cut (λ at. refl) (λ q bytes out. out) (λ m. same_sent b0.log line s.node s.job m) (λ seg inputs is. is) (tasks_kept b0.nodes b0.log board i refl all.2.tasks) refl all.2.fit (λ none. none.0) all
@@ -244,7 +244,7 @@ module _ {D : Type 0} (cells : D → Cells) where
       i = JobBegun line s.node s.job None None
 
   -- and of all
-  pub begun_all : (b0 b2 : Sheet) (places : List (Option (Place D))) (board : Board) (line : LineNo) (sent : List Sent) → b2.log ≡ begun_log line sent b0.log → b2.nodes ≡ b0.nodes → b2.cut ≡ b0.cut → AllShown cells b0 board places → AllShown cells b2 board places
+  pub begun_all : (b0 b2 : Sheet) (places : List (Option (NodePlace D))) (board : Board) (line : LineNo) (sent : List Sent) → b2.log ≡ begun_log line sent b0.log → b2.nodes ≡ b0.nodes → b2.cut ≡ b0.cut → AllShown cells b0 board places → AllShown cells b2 board places
   begun_all b0 b2 places board line [] log nodes cut all = all_is cells b0 b2 board places log nodes cut all
   begun_all b0 b2 places board line (s ∷ sent) log nodes cut all =
       begun_all (record b0 { log = kept (JobBegun line s.node s.job None None) ∷ b0.log }) b2 places board line sent log nodes cut

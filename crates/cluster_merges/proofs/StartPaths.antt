@@ -28,7 +28,7 @@ use Rattle.history_book.specs.declared.inner.Inner.TheVariants.{MergeOut}
 use Rattle.history_book.specs.Laws.{IsFresh}
 use Rattle.history_book.specs.Turns.{AreInTurn}
 use Rattle.merge_tasks.specs.Merging.{Sheet, next_name}
-use Rattle.primary_state.specs.declared.parts.Parts.{Parts as PrimaryParts}
+use Rattle.primary_state.specs.declared.parts.PrimaryParts.{PrimaryParts}
 use Rattle.primary_state.specs.declared.parts.PublishFault.{PublishFault}
 use Rattle.primary_state.specs.declared.parts.PublishFault.TheVariants.{NamesSpent as Spent, TooManySegments}
 use Rattle.primary_state.specs.Cut.{infos_drawn}
@@ -38,10 +38,10 @@ use Rattle.primary_state.specs.Primary.{loose_of}
 use Rattle.primary_merges.specs.StartCalls.{IsFitTask, merge_sizes, StartsMerge, AnswersMerge}
 use Rattle.merge_tasks.specs.TaskLog.{merge_task}
 use Rattle.merge_tasks.specs.Board.{Board, posted_merge}
-use Rattle.cluster_nodes.specs.declared.held.Held.{Held}
+use Rattle.cluster_nodes.specs.declared.held.HeldTicket.{HeldTicket}
 use Rattle.cluster_nodes.specs.declared.nodes.Node.{Node}
 use Rattle.cluster_nodes.specs.declared.nodes.Node.TheVariants.{Primary, Replica, Down}
-use Rattle.cluster_nodes.specs.declared.nodes.Place.{Place}
+use Rattle.cluster_nodes.specs.declared.nodes.NodePlace.{NodePlace}
 use Rattle.cluster_nodes.specs.Places.{place_of, unwrapped}
 use Rattle.cluster_nodes.specs.KeptFiles.{KeepsNodeFiles}
 use Rattle.cluster_nodes.proofs.TicketNodes.{node_alone}
@@ -73,23 +73,23 @@ module _ {D : Type 0} where
   is_beside (Primary p) = ⊥
   is_beside x = ⊤
 
-  abbrev is_none_beside : Option (Place D) → Type 0
+  abbrev is_none_beside : Option (NodePlace D) → Type 0
   is_none_beside None = ⊤
   is_none_beside (Some z) = is_beside z.node
 
-  sizes_found : (places : List (Option (Place D))) (k : ℕ) (z : Place D) (p : PrimaryParts D) → unwrapped (slice_get places k) ≡ Some z → z.node ≡ Primary p → ((j : ℕ) → j < k → is_none_beside (unwrapped (slice_get places j))) → sizes_in places ≡ merge_sizes p
+  sizes_found : (places : List (Option (NodePlace D))) (k : ℕ) (z : NodePlace D) (p : PrimaryParts D) → unwrapped (slice_get places k) ≡ Some z → z.node ≡ Primary p → ((j : ℕ) → j < k → is_none_beside (unwrapped (slice_get places j))) → sizes_in places ≡ merge_sizes p
   sizes_found [] k z p is there apart = absurd (clash is)
     where
-      clash : ◌≡◌ {A = Option (Place D)} None (Some z) → ⊥
+      clash : ◌≡◌ {A = Option (NodePlace D)} None (Some z) → ⊥
       clash e = absurd (cc)
   sizes_found (None ∷ places) zero z p is there apart = absurd (clash is)
     where
-      clash : ◌≡◌ {A = Option (Place D)} None (Some z) → ⊥
+      clash : ◌≡◌ {A = Option (NodePlace D)} None (Some z) → ⊥
       clash e = absurd (cc)
   sizes_found (None ∷ places) (suc k) z p is there apart = sizes_found places k z p is there (λ j low. apart (suc j) (omega (arith, low)))
   sizes_found (Some y ∷ places) zero z p is there apart =
-      let same : ◌≡◌ {A = Place D} y z = cc in
-      ap (λ (x : Node D). elim x [ Primary q ↦ merge_sizes q | Replica r ↦ sizes_in places | Down d ↦ sizes_in places ]) (ap (λ (x : Place D). x.node) same ∙ there)
+      let same : ◌≡◌ {A = NodePlace D} y z = cc in
+      ap (λ (x : Node D). elim x [ Primary q ↦ merge_sizes q | Replica r ↦ sizes_in places | Down d ↦ sizes_in places ]) (ap (λ (x : NodePlace D). x.node) same ∙ there)
   sizes_found (Some y ∷ places) (suc k) z p is there apart = by y.node (apart zero (omega arith)) (sizes_found places k z p is there (λ j low. apart (suc j) (omega (arith, low))))
     where
       by : (x : Node D) → is_beside x → sizes_in places ≡ merge_sizes p → elim x [ Primary q ↦ merge_sizes q | Replica r ↦ sizes_in places | Down d ↦ sizes_in places ] ≡ merge_sizes p
@@ -97,7 +97,7 @@ module _ {D : Type 0} where
       by (Replica r) none found = found
       by (Down d) none found = found
 
-  beside_primary : (cells : D → Cells) (log : Log) (m : ℕ) (o : Option (Place D)) → is_at (primary_of (printed log)) m ≡ false → IsSomeAnd o (PlaceShows cells log m) → is_none_beside o
+  beside_primary : (cells : D → Cells) (log : Log) (m : ℕ) (o : Option (NodePlace D)) → is_at (primary_of (printed log)) m ≡ false → IsSomeAnd o (PlaceShows cells log m) → is_none_beside o
   beside_primary cells log m None away none = tt
   beside_primary cells log m (Some z) away is = by z.node is.node_shows
     where
@@ -106,7 +106,7 @@ module _ {D : Type 0} where
       by (Replica r) showing = tt
       by (Down d) showing = tt
 
-  pub sizes_at : (cells : D → Cells) (log : Log) (size n : ℕ) (places : List (Option (Place D))) (p : PrimaryParts D) (held : Vec Held Global) → IsNode size n → place_of places n ≡ Some (record { node = Primary p; held = held })
+  pub sizes_at : (cells : D → Cells) (log : Log) (size n : ℕ) (places : List (Option (NodePlace D))) (p : PrimaryParts D) (held : Vec HeldTicket Global) → IsNode size n → place_of places n ≡ Some (record { node = Primary p; held = held })
       → ((m : ℕ) → (n == m) ≡ false → is_at (primary_of (printed log)) m ≡ false) → Shows cells log size places → sizes_in places ≡ merge_sizes p
   sizes_at cells log size zero places p held node there others shows = absurd (omega (arith, node.0))
   sizes_at cells log size (suc k) places p held node there others shows = sizes_found places k (record { node = Primary p; held = held }) p there refl
@@ -117,7 +117,7 @@ module _ {D : Type 0} where
 
 -- ---- the call
 
-module _ {D : Type 0} (cells : D → Cells) (r : Run) (old new : List (Option (Place D))) (b0 b1 : Sheet) (board : Board) (at : At) (p : NodeNo) (factor : ℕ) (result : Result (Option MergeTask) PublishFault) {ended cut : Bool} {calls : List ℕ} {copies : List (List MergedCopy)} {jobs : List JobFiles} {plans : List Plans}
+module _ {D : Type 0} (cells : D → Cells) (r : Run) (old new : List (Option (NodePlace D))) (b0 b1 : Sheet) (board : Board) (at : At) (p : NodeNo) (factor : ℕ) (result : Result (Option MergeTask) PublishFault) {ended cut : Bool} {calls : List ℕ} {copies : List (List MergedCopy)} {jobs : List JobFiles} {plans : List Plans}
     (view : record { ended = ended; nodes = b0.nodes; log = b0.log; rest = record { calls_left = calls; cut = cut; sizes = sizes_in old; jobs = jobs; copies = copies; tasks = board; plans = plans } } ≡ r) (running : r.ended ≡ false) (all : ended ≡ false → AllShown cells b0 board old)
     (e1 : b1.log ≡ b0.log) (n1 : b1.nodes ≡ b0.nodes) (c1 : b1.cut ≡ b0.cut) (legal : IsLegalPast b0.nodes (printed b0.log)) (turns : AreInTurn (printed b0.log)) (fresh : IsFresh at (printed b0.log)) (node : IsNode r.nodes p.0) (primary : primary_of (printed r.log) ≡ Some p)
     (asked : MovesPrimary (λ q s. AsksMerge cells factor q s result) p.0 old new) where

@@ -18,7 +18,7 @@ use Rattle.merge_tasks.specs.declared.tasks.Posted.{Posted}
 use Rattle.history_book.specs.Told.{counted_for}
 use Rattle.merge_tasks.specs.Board.{Board, step_of, IsToldKind, IsToldTask, without_count}
 use Rattle.merge_tasks.proofs.TaskFrames.{tasks_drained, told_all, may_drain_most}
-use Rattle.cluster_nodes.specs.declared.nodes.Place.{Place}
+use Rattle.cluster_nodes.specs.declared.nodes.NodePlace.{NodePlace}
 use Rattle.disk_model.specs.Faults.{Plans}
 use Rattle.cluster_state.specs.Run.{JobFiles, MergedCopy, Rest, Run}
 use Rattle.cluster_state.specs.Merging.{IsFitKind, MergesStand}
@@ -51,7 +51,7 @@ module _ (r : Run) (b0 b1 : Sheet) (board : Board) {ended cut : Bool} {calls : L
   none_taken new calls1 cut1 sizes1 rows posted none = (as_before new calls1 cut1 sizes1 rows posted, sym (ap (λ (x : Run). x.rest.tasks.posted) view) ∙ none)
 
   -- the first task was taken
-  pub hands_task : {D : Type 0} (places : List (Option (Place D))) (b2 : Sheet) (new : Board) (p : Posted) (by : Option At) (step : Step) (calls1 : List ℕ) (cut1 : Bool) (sizes1 : List (Option ℕ)) {copies1 : List (List MergedCopy)} {jobs1 : List JobFiles} {plans1 : List Plans} → step ≡ step_of p.kind
+  pub hands_task : {D : Type 0} (places : List (Option (NodePlace D))) (b2 : Sheet) (new : Board) (p : Posted) (by : Option At) (step : Step) (calls1 : List ℕ) (cut1 : Bool) (sizes1 : List (Option ℕ)) {copies1 : List (List MergedCopy)} {jobs1 : List JobFiles} {plans1 : List Plans} → step ≡ step_of p.kind
       → b2.log ≡ kept (TaskOut p.line p.seg by step) ∷ b1.log → b2.nodes ≡ b1.nodes → board.posted ≡ p ∷ new.posted → new.rows ≡ board.rows → MergesStand b0.log b0.cut b0.nodes board places
       → HandsTask by r (record { ended = false; nodes = b2.nodes; log = b2.log; rest = record { calls_left = calls1; cut = cut1; sizes = sizes1; jobs = jobs1; copies = copies1; tasks = new; plans = plans1 } }) (record { line = p.line; seg = p.seg; by = by; kind = p.kind })
   hands_task places b2 new p by step calls1 cut1 sizes1 is_step log nodes first rows was = record {
@@ -84,7 +84,7 @@ module _ (r : Run) (b0 b1 : Sheet) (board : Board) {ended cut : Bool} {calls : L
     posted_are = posted ∙ ap (λ (x : Run). x.rest.tasks.posted) view;
   }
 
-module _ {D : Type 0} (cells : D → Cells) (places : List (Option (Place D))) (b0 b1 b2 : Sheet) (board new : Board) (e1 : b1.log ≡ b0.log) (n1 : b1.nodes ≡ b0.nodes) (c1 : b1.cut ≡ b0.cut) where
+module _ {D : Type 0} (cells : D → Cells) (places : List (Option (NodePlace D))) (b0 b1 b2 : Sheet) (board new : Board) (e1 : b1.log ≡ b0.log) (n1 : b1.nodes ≡ b0.nodes) (c1 : b1.cut ≡ b0.cut) where
   -- all is true again where none was taken
   pub still_all : new.rows ≡ board.rows → new.posted ≡ board.posted → new.counts ≡ board.counts → AllShown cells b0 board places → AllShown cells b1 new places
   still_all rows posted counts all = subst (λ (z : Board). AllShown cells b1 z places) board_is (all_is cells b0 b1 board places e1 n1 c1 all)
@@ -112,7 +112,7 @@ module _ {D : Type 0} (cells : D → Cells) (places : List (Option (Place D))) (
 
 -- ---- a drain's reply
 
-module _ {D : Type 0} (cells : D → Cells) (r : Run) (places : List (Option (Place D))) (b0 b1 b2 : Sheet) (board new : Board) (at : At) (done most : ℕ) {ended cut : Bool} {calls : List ℕ} {sizes : List (Option ℕ)} {copies : List (List MergedCopy)} {jobs : List JobFiles} {plans : List Plans}
+module _ {D : Type 0} (cells : D → Cells) (r : Run) (places : List (Option (NodePlace D))) (b0 b1 b2 : Sheet) (board new : Board) (at : At) (done most : ℕ) {ended cut : Bool} {calls : List ℕ} {sizes : List (Option ℕ)} {copies : List (List MergedCopy)} {jobs : List JobFiles} {plans : List Plans}
     (view : record { ended = ended; nodes = b0.nodes; log = b0.log; rest = record { calls_left = calls; cut = cut; sizes = sizes; jobs = jobs; copies = copies; tasks = board; plans = plans } } ≡ r) (running : r.ended ≡ false) (all : ended ≡ false → AllShown cells b0 board places)
     (e1 : b1.log ≡ b0.log) (n1 : b1.nodes ≡ b0.nodes) (c1 : b1.cut ≡ b0.cut) (legal : IsLegalPast b0.nodes (printed b0.log)) (turns : AreInTurn (printed b0.log)) (fresh : IsFresh at (printed b0.log))
     (empty : entries_of_line at (printed r.log) ≡ []) (is : done ≡ counted_for at r.log) where

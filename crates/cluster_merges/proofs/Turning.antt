@@ -10,7 +10,7 @@ use Rattle.history_rules.specs.Commits.{is_disk_fault}
 use Rattle.history_rules.specs.Lines.{entries_of_line}
 use Rattle.history_rules.specs.Nodes.{primary_of}
 use Rattle.history_book.specs.Log.{Log, printed, shown}
-use Rattle.cluster_nodes.specs.declared.nodes.Place.{Place}
+use Rattle.cluster_nodes.specs.declared.nodes.NodePlace.{NodePlace}
 use Rattle.merge_tasks.specs.declared.tasks.OpenMerge.{OpenMerge}
 use Rattle.history_book.specs.Told.{counted_for}
 use Rattle.merge_tasks.specs.Board.{Board, done_under}
@@ -22,7 +22,7 @@ use Rattle.cluster_state.specs.Calls.{LineRefused}
 use Rattle.cluster_merges.specs.TaskCalls.{RefusesMerge, StartsAtPrimary, MergeLine}
 
 -- ---- what stands of merges
-module _ {D : Type 0} (log : Log) (cut : Bool) (size : ℕ) (board : Board) (places : List (Option (Place D))) (stand : MergesStand log cut size board places) where
+module _ {D : Type 0} (log : Log) (cut : Bool) (size : ℕ) (board : Board) (places : List (Option (NodePlace D))) (stand : MergesStand log cut size board places) where
   -- without a primary no merge is in flight
   pub no_row : (test : List OpenMerge → Bool) → test [] ≡ false → primary_of (printed log) ≡ None → test board.rows ≡ true → ⊥
   no_row test none vacant is = true≢false (sym is ∙ ap test (stand.vacant vacant).1.1 ∙ none)

@@ -12,7 +12,7 @@ use Rattle.copy_state.specs.States.{meta_names, IsCopyState}
 use Rattle.copy_job.specs.Jobs.{Job}
 use Rattle.seg_build.specs.Built.{File}
 use Rattle.seg_merge.specs.declared.task.Merged.{Merged}
-use Rattle.primary_state.specs.declared.parts.Parts.{Parts as PrimaryParts}
+use Rattle.primary_state.specs.declared.parts.PrimaryParts.{PrimaryParts}
 use Rattle.primary_state.specs.declared.states.Merging.{Merging}
 use Rattle.primary_state.specs.Merges.{merge_of}
 use Rattle.primary_state.specs.States.{out_of, IsMetaIn}
@@ -27,10 +27,10 @@ use Rattle.merge_tasks.specs.declared.tasks.Spread.{Spread}
 use Rattle.merge_tasks.specs.Board.{Board, open_merge, spread_at, with_spread, is_sent_in, due_all, IsToldTask}
 use Rattle.merge_tasks.proofs.BoardRows.{line_told, open_with, lines_with, due_written}
 use Rattle.merge_tasks.proofs.TaskFrames.{tasks_on}
-use Rattle.cluster_nodes.specs.declared.held.Held.{Held}
+use Rattle.cluster_nodes.specs.declared.held.HeldTicket.{HeldTicket}
 use Rattle.cluster_nodes.specs.declared.nodes.Node.{Node}
 use Rattle.cluster_nodes.specs.declared.nodes.Node.TheVariants.{Primary, Replica, Down}
-use Rattle.cluster_nodes.specs.declared.nodes.Place.{Place}
+use Rattle.cluster_nodes.specs.declared.nodes.NodePlace.{NodePlace}
 use Rattle.cluster_nodes.specs.Places.{place_of}
 use Rattle.cluster_nodes.specs.Outs.{one_like, states_like, jobs_like}
 use Rattle.cluster_nodes.specs.JobPlaces.{MovesOne}
@@ -79,7 +79,7 @@ module _ {D : Type 0} (cells : D → Cells) where
     copy = subst (λ (c : CopyState). IsCopyState c) (sym is) w.copy;
   }
 
-  pub stand_written : (size : ℕ) (log : Log) (cut : Bool) (board after : Board) (old new : List (Option (Place D))) (n : ℕ) (merged : Merged) (state : CopyState) (p q : PrimaryParts D) (held : Vec Held Global) (row : OpenMerge)
+  pub stand_written : (size : ℕ) (log : Log) (cut : Bool) (board after : Board) (old new : List (Option (NodePlace D))) (n : ℕ) (merged : Merged) (state : CopyState) (p q : PrimaryParts D) (held : Vec HeldTicket Global) (row : OpenMerge)
       → MovesOne n (record { node = Primary q; held = held }) old new → IsNode size n → place_of old n ≡ Some (record { node = Primary p; held = held }) → is_at (primary_of (printed log)) n ≡ true → Shows cells log size old → ReadiesMerge cells merged state p q
       → open_merge merged.files.seg.0 board.rows ≡ Some row → row.spread ≡ None → after.rows ≡ with_spread merged.files.seg.0 (Some (record { state = state; left = []; all = false })) board.rows → after.posted ≡ board.posted → after.counts ≡ board.counts
       → MergesStand log cut size board old → MergesStand log cut size after new

@@ -15,7 +15,7 @@ use Rattle.history_book.specs.declared.inner.Step.TheVariants.{PreCopy as PreCop
 use Rattle.merge_tasks.specs.Merging.{Sheet}
 use Rattle.merge_tasks.specs.TaskLog.{carried_out}
 use Rattle.merge_tasks.specs.Board.{Board, open_merge, spread_at, with_spread, sent_left, sent_less, post_after, done_under, counts_one}
-use Rattle.cluster_nodes.specs.declared.nodes.Place.{Place}
+use Rattle.cluster_nodes.specs.declared.nodes.NodePlace.{NodePlace}
 use Rattle.cluster_nodes.specs.declared.tasks.FileTask.{FileTask}
 use Rattle.node_merges.specs.MergeChanges.{SettlesMerged}
 use Rattle.node_merges.specs.MergePlaces.{MovesReplica}
@@ -43,7 +43,7 @@ pub record EndsCopyOf (line : LineNo) (seg : SegNo) (by : Option At) (n : NodeNo
   pub counts : (x : At) → done_under x after.counts ≡ done_under x board.counts + counts_one x by
 
 -- the same, and the copy's files are pending at its replica
-pub record SettlesCopyOf {D : Type 0} (cells : D → Cells) (line : LineNo) (seg : SegNo) (by : Option At) (n : NodeNo) (job : ℕ) (b now : Sheet) (board after : Board) (old new : List (Option (Place D))) : Type 0 where
+pub record SettlesCopyOf {D : Type 0} (cells : D → Cells) (line : LineNo) (seg : SegNo) (by : Option At) (n : NodeNo) (job : ℕ) (b now : Sheet) (board after : Board) (old new : List (Option (NodePlace D))) : Type 0 where
   pub moves : MovesReplica (SettlesMerged cells job) n.0 old new
   pub ends : EndsCopyOf line seg by n job b now board after
 

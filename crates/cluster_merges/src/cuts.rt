@@ -15,7 +15,7 @@ use node_merges::cut_in;
 use nrt_base::{At, LineNo, NoMemory, NodeNo, SegNo};
 use std::alloc::Global;
 
-/// Cuts a merge over whose copies have all ended, while no publish is in flight. `Err` is want of memory, or a disk that failed: the
+/// Cuts a merge over whose copies have all ended, while no publish is in flight. It fails when out of memory or when the disk fails: the
 /// cluster has ended, and the history is as before.
 pub fn cut_merge<D: FaultDir + Drop>(
     alloc: Global,

@@ -16,7 +16,7 @@ ghost use Rattle.cluster_merges.specs.Running.{AllShown};
 ghost use Rattle.cluster_merges.specs.MergePaths.{IsAsBefore};
 ghost use Rattle.cluster_merges.specs.CopyTurns.{IsTurnWhere, EndsCopyOf, SettlesCopyOf, StepsCopyTo, TurnsCopy};
 
-use cluster_nodes::{FileTask, Place};
+use cluster_nodes::{FileTask, NodePlace};
 use cluster_state::{ClusterState, are_bytes};
 use copy_job::Part;
 use disk_model::FaultDir;
@@ -70,7 +70,7 @@ fn settle_copy<D: FaultDir + Drop>(
     alloc: Global,
     ledger: &mut Ledger,
     tasks: &mut Tasks,
-    places: &mut Vec<Option<Place<D>>>,
+    places: &mut Vec<Option<NodePlace<D>>>,
     line: LineNo,
     seg: SegNo,
     by: Option<At>,
@@ -94,7 +94,7 @@ fn step_copy<D: FaultDir + Drop>(
     alloc: Global,
     ledger: &mut Ledger,
     tasks: &mut Tasks,
-    places: &mut Vec<Option<Place<D>>>,
+    places: &mut Vec<Option<NodePlace<D>>>,
     p: NodeNo,
     line: LineNo,
     seg: SegNo,

@@ -30,7 +30,7 @@ fn none_starts(fault: PublishFault) -> Result<Cause, NoMemory>
 }
 
 /// Starts a merge of the first neighbours that are chosen, and posts the task to build its segment. Where none starts it is answered why,
-/// and all is as before. `Err` is want of memory: the cluster has ended, and the history is as before.
+/// and all is as before. It fails when out of memory: the cluster has ended, and the history is as before.
 pub fn start_merge<D: FaultDir + Drop>(
     alloc: Global,
     cluster: &mut ClusterState<D>,

@@ -11,7 +11,7 @@ ghost use Rattle.cluster_state.specs.Run.{IsEnded};
 ghost use Rattle.cluster_merges.specs.MergePaths.{IsMergedOut, WritesMerge, begun_log};
 ghost use Rattle.cluster_merges.specs.Sending.{spread_to, SendsOne, MaySendAll, SendsAll};
 
-use cluster_nodes::{Place, files_last};
+use cluster_nodes::{NodePlace, files_last};
 use cluster_state::{ClusterState, replicas};
 use copy_state::CopyState;
 use disk_model::FaultDir;
@@ -26,7 +26,7 @@ use std::alloc::Global;
 fn send_one<D: FaultDir + Drop>(
     alloc: Global,
     tasks: &mut Tasks,
-    places: &mut Vec<Option<Place<D>>>,
+    places: &mut Vec<Option<NodePlace<D>>>,
     seg: SegNo,
     state: &CopyState,
     n: NodeNo,
@@ -46,7 +46,7 @@ fn send_one<D: FaultDir + Drop>(
 fn send_all<D: FaultDir + Drop>(
     alloc: Global,
     tasks: &mut Tasks,
-    places: &mut Vec<Option<Place<D>>>,
+    places: &mut Vec<Option<NodePlace<D>>>,
     seg: SegNo,
     state: &CopyState,
     nodes: &[NodeNo],
@@ -98,8 +98,8 @@ fn note_begun(ledger: &mut Ledger, line: LineNo, sent: &[Sent])
 }
 
 /// Writes the files of a merge of which none is written, and begins a copy of them to each replica that runs: the task to build its segment
-/// ends, and a task is posted for each copy, or, where there is none, the one to cut over. `Err` is want of memory, or a disk that
-/// failed: the cluster has ended, and the history is as before.
+/// ends, and a task is posted for each copy, or, where there is none, the one to cut over. It fails when out of memory or when the disk
+/// fails: the cluster has ended, and the history is as before.
 pub fn ready_merge<D: FaultDir + Drop>(
     alloc: Global,
     cluster: &mut ClusterState<D>,

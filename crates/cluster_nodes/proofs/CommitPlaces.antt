@@ -14,14 +14,14 @@ use Rattle.searcher_switch.specs.Appearing.{NoneAppears, AppearsOnly, IsNameInFl
 use Rattle.searcher_switch.proofs.Appearing.{only_none}
 use Rattle.searcher_switch.specs.Tickets.{ticket_names}
 use Rattle.searcher_switch.specs.Searching.{searcher_names}
-use Rattle.primary_state.specs.declared.parts.Parts.{Parts as PrimaryParts}
+use Rattle.primary_state.specs.declared.parts.PrimaryParts.{PrimaryParts}
 use Rattle.primary_state.specs.Primary.{IsPrimary, KeepsHeldBytes, primary_names, rest_names}
-use Rattle.replica_state.specs.declared.parts.Parts.{Parts as ReplicaParts}
+use Rattle.replica_state.specs.declared.parts.ReplicaParts.{ReplicaParts}
 use Rattle.replica_state.specs.Replica.{IsWholeReplica, AreStanding}
 use Rattle.replica_state.specs.Sources.{KeepsSource}
 use Rattle.cluster_nodes.specs.declared.nodes.Node.{Node}
 use Rattle.cluster_nodes.specs.declared.nodes.Node.TheVariants.{Primary, Replica, Down}
-use Rattle.cluster_nodes.specs.declared.nodes.Place.{Place}
+use Rattle.cluster_nodes.specs.declared.nodes.NodePlace.{NodePlace}
 use Rattle.cluster_nodes.specs.Places.{place_of, disk_of}
 use Rattle.cluster_nodes.specs.Commits.{HasStage, HasStageAt, StepsBook, AltersCommits}
 
@@ -101,8 +101,8 @@ module _ {D : Type 0} (cells : D → Cells) where
 
   -- ---- in a place
 
-  pub stage_here : (P : Option Stage → Type 0) (o : Option (Place D)) (z : Place D) → o ≡ Some z → HasStageAt P o → HasStage P (disk_of z.node).book
+  pub stage_here : (P : Option Stage → Type 0) (o : Option (NodePlace D)) (z : NodePlace D) → o ≡ Some z → HasStageAt P o → HasStage P (disk_of z.node).book
   stage_here P o z is has = subst (HasStageAt P) is has
 
-  pub some_here : (P : Option Stage → Type 0) (o : Option (Place D)) → HasStageAt P o → o ≢ None
+  pub some_here : (P : Option Stage → Type 0) (o : Option (NodePlace D)) → HasStageAt P o → o ≢ None
   some_here P o has none = subst (HasStageAt P) none has

@@ -5,9 +5,9 @@ use Rattle.std.proofs.lemmas.Bool.{eq-eqb}
 use Rattle.nrt_base.specs.declared.numbers.NodeNo.{NodeNo}
 use Rattle.disk_model.specs.Disk.{Cells, HasCrashed}
 use Rattle.history_rules.specs.Nodes.{is_at}
-use Rattle.cluster_nodes.specs.declared.held.Held.{Held}
+use Rattle.cluster_nodes.specs.declared.held.HeldTicket.{HeldTicket}
 use Rattle.cluster_nodes.specs.declared.nodes.Node.TheVariants.{Down}
-use Rattle.cluster_nodes.specs.declared.nodes.Place.{Place}
+use Rattle.cluster_nodes.specs.declared.nodes.NodePlace.{NodePlace}
 use Rattle.cluster_nodes.specs.Places.{place_of, dir_of, IsSlot}
 use Rattle.cluster_nodes.specs.Outs.{want_at}
 use Rattle.cluster_nodes.specs.Ends.{PlaceOutlives, EndsWith}
@@ -16,18 +16,18 @@ use Rattle.cluster_nodes.proofs.Taking.{moved_one}
 
 module _ {D : Type 0} (cells : D → Cells) where
   -- the place is there once the others are as they will be
-  pub slot_left : (primary : Option NodeNo) (old mid : List (Option (Place D))) (n : ℕ) → EndsWith cells primary n old mid → IsSlot old n → IsSlot mid n
+  pub slot_left : (primary : Option NodeNo) (old mid : List (Option (NodePlace D))) (n : ℕ) → EndsWith cells primary n old mid → IsSlot old n → IsSlot mid n
   slot_left primary old mid n ends slot = (slot.0, subst (λ (k : ℕ). n ≤ k) (sym ends.count) slot.1)
 
-  pub there_left : (primary : Option NodeNo) (old mid : List (Option (Place D))) (n : ℕ) → EndsWith cells primary n old mid → place_of old n ≢ None → place_of mid n ≢ None
+  pub there_left : (primary : Option NodeNo) (old mid : List (Option (NodePlace D))) (n : ℕ) → EndsWith cells primary n old mid → place_of old n ≢ None → place_of mid n ≢ None
   there_left primary old mid n ends there none = there (sym ends.here ∙ none)
 
-  pub crashed_in : {T E : Type 0} (result : Result T E) (primary : Option NodeNo) (old a b new : List (Option (Place D))) (n : ℕ) (place : Place D) (dir : D) (held : Vec Held Global) → EndsWith cells primary n old a → place_of a n ≡ Some place
+  pub crashed_in : {T E : Type 0} (result : Result T E) (primary : Option NodeNo) (old a b new : List (Option (NodePlace D))) (n : ℕ) (place : NodePlace D) (dir : D) (held : Vec HeldTicket Global) → EndsWith cells primary n old a → place_of a n ≡ Some place
       → held.items ≡ [] → length b ≡ length a → ((m : ℕ) → place_of b m ≡ (if n == m then None else place_of a m))
       → length new ≡ length b → ((m : ℕ) → place_of new m ≡ (if n == m then Some (record { node = Down dir; held = held }) else place_of b m))
       → OnOk result (HasCrashed (cells (dir_of place.node)) (cells dir)) → OnOk result (CrashesIn cells primary n old new)
   crashed_in (Ok x) primary old a b new n place dir held ends there none cm tm cn tn crashed =
-      let left : Place D = record { node = Down dir; held = held } in
+      let left : NodePlace D = record { node = Down dir; held = held } in
       let moves = moved_one a b new n left cm tm cn tn in
       record {
         place = place;
@@ -38,7 +38,7 @@ module _ {D : Type 0} (cells : D → Cells) where
         crashed = crashed;
         count = moves.count ∙ ends.count;
         here = moves.there n ∙ ap (λ (t : Bool). if t then Some left else place_of a n) (eq-eqb n n refl);
-        others = λ m apart. subst (λ (o : Option (Place D)). PlaceOutlives cells (is_at primary n) (is_at primary m) (want_at (place_of old n)) (place_of old m) o)
+        others = λ m apart. subst (λ (o : Option (NodePlace D)). PlaceOutlives cells (is_at primary n) (is_at primary m) (want_at (place_of old n)) (place_of old m) o)
             (sym (moves.there m ∙ ap (λ (t : Bool). if t then Some left else place_of a m) apart)) (ends.others m apart);
       }
   crashed_in (Err e) primary old a b new n place dir held ends there none cm tm cn tn crashed = tt

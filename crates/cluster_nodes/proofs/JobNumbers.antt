@@ -8,11 +8,11 @@ use Rattle.disk_model.specs.Disk.{Name, Cells}
 use Rattle.searcher_switch.specs.Appearing.{NoneAppears}
 use Rattle.copy_state.specs.declared.state.CopyState.{CopyState}
 use Rattle.copy_job.specs.Jobs.{Job, with_part}
-use Rattle.primary_state.specs.declared.parts.Parts.{Parts as PrimaryParts}
+use Rattle.primary_state.specs.declared.parts.PrimaryParts.{PrimaryParts}
 use Rattle.primary_state.specs.declared.states.Out.{Out}
 use Rattle.primary_state.specs.States.{out_of, is_out, states_without}
 use Rattle.replica_state.specs.declared.job.PointJob.{PointJob}
-use Rattle.replica_state.specs.declared.parts.Parts.{Parts as ReplicaParts}
+use Rattle.replica_state.specs.declared.parts.ReplicaParts.{ReplicaParts}
 use Rattle.replica_state.specs.Jobs.{running_point, stopped_job}
 use Rattle.replica_state.specs.Replica.{IsWholeReplica, AreStanding}
 use Rattle.replica_state.specs.Sources.{KeepsSource}

@@ -11,7 +11,7 @@ use Rattle.file_deleter.proofs.NameLemmas.{times-append}
 use Rattle.primary_state.specs.declared.states.Out.{Out}
 use Rattle.primary_state.specs.States.{same_out, is_out, states_without, state_names}
 use Rattle.primary_state.proofs.StateLemmas.{same_out_self}
-use Rattle.cluster_nodes.specs.declared.nodes.Place.{Place}
+use Rattle.cluster_nodes.specs.declared.nodes.NodePlace.{NodePlace}
 use Rattle.cluster_nodes.specs.Places.{place_of}
 use Rattle.cluster_nodes.specs.Outs.{one_like, states_like, want_at, jobs_like}
 use Rattle.cluster_nodes.specs.JobChanges.{given_back}
@@ -87,7 +87,7 @@ names_out s (t ∷ ts) q out = tests (same_out s t) refl out (λ more. names_out
 
 module _ {D : Type 0} where
   -- places that have the same jobs
-  pub jobs_same : (old new : List (Option (Place D))) (s : Out) (k : ℕ) → ((m : ℕ) → m ≤ k → want_at (place_of new m) ≡ want_at (place_of old m)) → jobs_like new s k ≡ jobs_like old s k
+  pub jobs_same : (old new : List (Option (NodePlace D))) (s : Out) (k : ℕ) → ((m : ℕ) → m ≤ k → want_at (place_of new m) ≡ want_at (place_of old m)) → jobs_like new s k ≡ jobs_like old s k
   jobs_same old new s zero same_at = refl
   jobs_same old new s (suc k) same_at =
       let rest = jobs_same old new s k (λ m low. same_at m (omega (arith, low))) in
@@ -95,7 +95,7 @@ module _ {D : Type 0} where
       omega (arith, rest, one)
 
   -- places of which one has another job
-  pub jobs_moved : (old new : List (Option (Place D))) (s : Out) (n k : ℕ) → 1 ≤ n → n ≤ k → ((m : ℕ) → (n == m) ≡ false → want_at (place_of new m) ≡ want_at (place_of old m))
+  pub jobs_moved : (old new : List (Option (NodePlace D))) (s : Out) (n k : ℕ) → 1 ≤ n → n ≤ k → ((m : ℕ) → (n == m) ≡ false → want_at (place_of new m) ≡ want_at (place_of old m))
       → jobs_like new s k + one_like s (want_at (place_of old n)) ≡ jobs_like old s k + one_like s (want_at (place_of new n))
   jobs_moved old new s n zero some low others = absurd (omega (arith, some, low))
   jobs_moved old new s n (suc k) some low others = tests (n == suc k) refl (λ below. jobs_moved old new s n k some below others)
@@ -114,7 +114,7 @@ module _ {D : Type 0} where
           omega (arith, rest, one)
 
   -- places without a job
-  pub jobs_none : (places : List (Option (Place D))) (s : Out) (k : ℕ) → ((m : ℕ) → 1 ≤ m → m ≤ k → want_at (place_of places m) ≡ None) → jobs_like places s k ≡ 0
+  pub jobs_none : (places : List (Option (NodePlace D))) (s : Out) (k : ℕ) → ((m : ℕ) → 1 ≤ m → m ≤ k → want_at (place_of places m) ≡ None) → jobs_like places s k ≡ 0
   jobs_none places s zero none = refl
   jobs_none places s (suc k) none =
       let rest = jobs_none places s k (λ m first last. none m first (omega (arith, last))) in
@@ -122,7 +122,7 @@ module _ {D : Type 0} where
       omega (arith, rest, one)
 
   -- a job of one of the places is counted
-  pub job_counted : (places : List (Option (Place D))) (s : Out) (n k : ℕ) → 1 ≤ n → n ≤ k → want_at (place_of places n) ≡ Some s → 1 ≤ jobs_like places s k
+  pub job_counted : (places : List (Option (NodePlace D))) (s : Out) (n k : ℕ) → 1 ≤ n → n ≤ k → want_at (place_of places n) ≡ Some s → 1 ≤ jobs_like places s k
   job_counted places s n zero some low is = absurd (omega (arith, some, low))
   job_counted places s n (suc k) some low is = tests (n == suc k) refl (λ below. job_counted places s n k some below is)
     where

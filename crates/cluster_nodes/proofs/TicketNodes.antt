@@ -2,15 +2,15 @@
 use Rattle.std.proofs.Common.{◌≡◌, ◌∙◌, ℕ, List, refl, ap, sym, subst}
 use Rattle.disk_model.specs.Disk.{Cells}
 use Rattle.searcher_switch.specs.Appearing.{NoneAppears}
-use Rattle.replica_state.specs.declared.parts.Parts.{Parts as ReplicaParts}
+use Rattle.replica_state.specs.declared.parts.ReplicaParts.{ReplicaParts}
 use Rattle.replica_state.specs.Sources.{KeepsSource}
 use Rattle.segment_infos.specs.declared.infos.Infos.{Infos}
-use Rattle.primary_state.specs.declared.parts.Parts.{Parts as PrimaryParts}
+use Rattle.primary_state.specs.declared.parts.PrimaryParts.{PrimaryParts}
 use Rattle.primary_state.specs.Held.{IsUndrawn}
 use Rattle.primary_state.specs.Primary.{KeepsHeldBytes, loose_of, filled_of}
 use Rattle.primary_state.specs.Calls.{HoldsNoNew}
 use Rattle.seg_reader.specs.Shown.{Shown}
-use Rattle.searcher_switch.specs.declared.open.Point.{Point}
+use Rattle.searcher_switch.specs.declared.open.SearchPoint.{SearchPoint}
 use Rattle.cluster_nodes.specs.declared.nodes.Node.{Node}
 use Rattle.cluster_nodes.specs.declared.nodes.Node.TheVariants.{Primary, Replica, Down}
 use Rattle.cluster_nodes.specs.KeptFiles.{KeepsNodeFiles}
@@ -63,7 +63,7 @@ module _ {D : Type 0} (cells : D → Cells) where
     job = ap (λ (z : ReplicaParts D). z.job) others;
     jobs = ap (λ (z : ReplicaParts D). z.jobs) others;
     copies = ap (λ (z : ReplicaParts D). z.copies) others;
-    version = ap (λ (z : Point Shown). z.version) point;
+    version = ap (λ (z : SearchPoint Shown). z.version) point;
   })
 
   -- a node that no call changed

@@ -7,10 +7,10 @@ use Rattle.searcher_switch.specs.Searching.{IsLeaseOf}
 use Rattle.searcher_switch.specs.Tickets.{ticket_at, tickets_without}
 use Rattle.primary_state.specs.Primary.{IsPrimary}
 use Rattle.replica_state.specs.Replica.{IsWholeReplica, AreStanding}
-use Rattle.cluster_nodes.specs.declared.held.Key.{Key}
+use Rattle.cluster_nodes.specs.declared.held.HeldKey.{HeldKey}
 use Rattle.cluster_nodes.specs.declared.nodes.Node.{Node}
 use Rattle.cluster_nodes.specs.declared.nodes.Node.TheVariants.{Primary, Replica, Down}
-use Rattle.cluster_nodes.specs.declared.nodes.Place.{Place}
+use Rattle.cluster_nodes.specs.declared.nodes.NodePlace.{NodePlace}
 use Rattle.cluster_nodes.specs.Held.{same_key, held_number}
 use Rattle.cluster_nodes.specs.Places.{searchers_of, tickets_of}
 
@@ -28,10 +28,10 @@ module _ {D : Type 0} where
     pub tickets : IfSome (searchers_of old) (λ s. tickets_of new ≡ s.tickets ++ record { number = number; point = s.point } ∷ [])
 
   -- the node holds a ticket more, for this, on the point that it searches
-  pub record HoldsMore (key : Key) (old new : Place D) : Type 0 where
+  pub record HoldsMore (key : HeldKey) (old new : NodePlace D) : Type 0 where
     pub number : ℕ
     pub opens : OpensTicket number old.node new.node
-    pub rows : (k : Key) → held_number new.held.items k ≡ (if same_key key k then Some number else held_number old.held.items k)
+    pub rows : (k : HeldKey) → held_number new.held.items k ≡ (if same_key key k then Some number else held_number old.held.items k)
 
   -- the ticket with this number is closed, where there is a number
   abbrev pub ClosesTicket : Option ℕ → Node D → Node D → Type 0
@@ -39,16 +39,16 @@ module _ {D : Type 0} where
   ClosesTicket (Some number) old new = tickets_of new ≡ tickets_without number (tickets_of old)
 
   -- the ticket that the node held for this is closed
-  pub record HoldsLess (key : Key) (old new : Place D) : Type 0 where
+  pub record HoldsLess (key : HeldKey) (old new : NodePlace D) : Type 0 where
     pub closed : ClosesTicket (held_number old.held.items key) old.node new.node
-    pub rows : (k : Key) → held_number new.held.items k ≡ (if same_key key k then None else held_number old.held.items k)
+    pub rows : (k : HeldKey) → held_number new.held.items k ≡ (if same_key key k then None else held_number old.held.items k)
 
   -- a ticket that is open at the node is held for this
-  abbrev pub HoldsTicket : Option (Place D) → Key → Type 0
+  abbrev pub HoldsTicket : Option (NodePlace D) → HeldKey → Type 0
   HoldsTicket None key = ⊥
   HoldsTicket (Some place) key = IsSomeAnd (held_number place.held.items key) (λ number. is_some (ticket_at number (tickets_of place.node)) ≡ true)
 
   -- what is read is the point on which the ticket was opened that is held for this
-  abbrev pub IsLeaseUnder : Option (Place D) → Key → Lease Shown → Type 0
+  abbrev pub IsLeaseUnder : Option (NodePlace D) → HeldKey → Lease Shown → Type 0
   IsLeaseUnder None key lease = ⊥
   IsLeaseUnder (Some place) key lease = IsSomeAnd (held_number place.held.items key) (λ number. IfSome (ticket_at number (tickets_of place.node)) (IsLeaseOf lease))

@@ -7,14 +7,14 @@ use Rattle.commit_steps.specs.declared.stage.CommitBook.{CommitBook}
 use Rattle.commit_steps.specs.Book.{book_after, is_last_step}
 use Rattle.searcher_switch.specs.Node.{HoldsNoMore}
 use Rattle.searcher_switch.specs.Appearing.{AppearsOnly, IsNameInFlight}
-use Rattle.replica_state.specs.declared.parts.Parts.{Parts as ReplicaParts}
+use Rattle.replica_state.specs.declared.parts.ReplicaParts.{ReplicaParts}
 use Rattle.replica_state.specs.Replica.{IsWholeReplica, AreStanding}
 use Rattle.replica_state.specs.Sources.{KeepsSource}
-use Rattle.primary_state.specs.declared.parts.Parts.{Parts as PrimaryParts}
+use Rattle.primary_state.specs.declared.parts.PrimaryParts.{PrimaryParts}
 use Rattle.primary_state.specs.Primary.{IsPrimary, KeepsHeldBytes}
 use Rattle.cluster_nodes.specs.declared.nodes.Node.{Node}
 use Rattle.cluster_nodes.specs.declared.nodes.Node.TheVariants.{Primary, Replica, Down}
-use Rattle.cluster_nodes.specs.declared.nodes.Place.{Place}
+use Rattle.cluster_nodes.specs.declared.nodes.NodePlace.{NodePlace}
 use Rattle.cluster_nodes.specs.Places.{place_of, disk_of}
 use Rattle.cluster_nodes.specs.JobPlaces.{MovesOne}
 
@@ -52,13 +52,13 @@ module _ {D : Type 0} where
   AltersCommits Step cells old new = ⊥
 
   -- the same of the node in a place
-  pub record CommitsIn (Step : Infos → CommitBook → CommitBook → Type 0) (cells : D → Cells) (n : ℕ) (old new : List (Option (Place D))) : Type 0 where
-    pub place : Place D
+  pub record CommitsIn (Step : Infos → CommitBook → CommitBook → Type 0) (cells : D → Cells) (n : ℕ) (old new : List (Option (NodePlace D))) : Type 0 where
+    pub place : NodePlace D
     pub there : place_of old n ≡ Some place
     pub node : Node D
     pub moves : MovesOne n (record { node = node; held = place.held }) old new
     pub alters : AltersCommits Step cells place.node node
 
   -- a commit of the node in a place is so
-  abbrev pub HasStageAt : (Option Stage → Type 0) → Option (Place D) → Type 0
+  abbrev pub HasStageAt : (Option Stage → Type 0) → Option (NodePlace D) → Type 0
   HasStageAt P place = IsSomeAnd place (λ z. HasStage P (disk_of z.node).book)

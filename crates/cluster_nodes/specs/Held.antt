@@ -1,17 +1,17 @@
 -- The tickets of a node that are held.
 use Rattle.std.specs.Prelude.{ℕ, List, [], ◌∷◌, Bool, false, ◌&&◌, ◌==◌, if◌then◌else◌, Option, Some, None}
 use Rattle.history_rules.specs.Lines.{same_at}
-use Rattle.cluster_nodes.specs.declared.held.Held.{Held}
-use Rattle.cluster_nodes.specs.declared.held.Key.{Key}
-use Rattle.cluster_nodes.specs.declared.held.Key.TheVariants.{Ticket, Search}
+use Rattle.cluster_nodes.specs.declared.held.HeldTicket.{HeldTicket}
+use Rattle.cluster_nodes.specs.declared.held.HeldKey.{HeldKey}
+use Rattle.cluster_nodes.specs.declared.held.HeldKey.TheVariants.{Ticket, Search}
 
 -- the two are one ticket of a lane, or one search
-abbrev pub same_key : Key → Key → Bool
+abbrev pub same_key : HeldKey → HeldKey → Bool
 same_key (Ticket lane t) (Ticket l u) = (lane.0 == l.0) && (t.0 == u.0)
 same_key (Search at) (Search b) = same_at at b
 same_key k l = false
 
 -- the number of the ticket that is held for this
-abbrev pub held_number : List Held → Key → Option ℕ
+abbrev pub held_number : List HeldTicket → HeldKey → Option ℕ
 held_number [] key = None
 held_number (row ∷ rows) key = if same_key row.key key then Some row.number else held_number rows key

@@ -8,7 +8,7 @@ use Rattle.file_names.specs.Names.{temp_name_of}
 use Rattle.searcher_switch.specs.Appearing.{NoneAppears, AppearsOnly}
 use Rattle.replica_state.specs.declared.job.PointJob.{PointJob}
 use Rattle.replica_state.specs.declared.merges.MergeCopies.{MergeCopies}
-use Rattle.replica_state.specs.declared.parts.Parts.{Parts as ReplicaParts}
+use Rattle.replica_state.specs.declared.parts.ReplicaParts.{ReplicaParts}
 use Rattle.replica_state.specs.Jobs.{IsPointJob, running_point, job_seen}
 use Rattle.replica_state.specs.Merges.{copies_seen}
 use Rattle.replica_state.specs.Replica.{IsWholeReplica, AreStanding}
@@ -22,11 +22,11 @@ use Rattle.copy_state.specs.States.{meta_names, meta_in}
 use Rattle.copy_job.specs.declared.copying.Part.{Part}
 use Rattle.copy_job.specs.Parts.{own_names}
 use Rattle.copy_job.specs.Jobs.{Job, reads_under}
-use Rattle.primary_state.specs.declared.parts.Parts.{Parts as PrimaryParts}
+use Rattle.primary_state.specs.declared.parts.PrimaryParts.{PrimaryParts}
 use Rattle.primary_state.specs.declared.states.Out.{Out}
 use Rattle.primary_state.specs.Primary.{IsPrimary}
 use Rattle.primary_state.specs.States.{out_of, states_without, IsMetaIn}
-use Rattle.cluster_nodes.specs.declared.nodes.Place.{Place}
+use Rattle.cluster_nodes.specs.declared.nodes.NodePlace.{NodePlace}
 use Rattle.cluster_nodes.specs.declared.nodes.Node.TheVariants.{Primary, Replica, Down}
 use Rattle.cluster_nodes.specs.Outs.{want_of}
 use Rattle.cluster_nodes.specs.KeptFiles.{KeepsPrimaryFiles}
@@ -66,17 +66,17 @@ pub record HasTaken (name : Name) (j k : PointJob) : Type 0 where
 
 module _ {D : Type 0} where
   -- a replica is there, with a job that runs
-  abbrev pub HasJob : Option (Place D) → Type 0
+  abbrev pub HasJob : Option (NodePlace D) → Type 0
   HasJob None = ⊥
   HasJob (Some place) = elim place.node [ Primary p ↦ ⊥ | Replica r ↦ IsSome (running_point r.job) | Down d ↦ ⊥ ]
 
   -- this is the next file of the job that runs there
-  abbrev pub HasNextFile : Option (Place D) → Option (Name × FileMetaData) → Type 0
+  abbrev pub HasNextFile : Option (NodePlace D) → Option (Name × FileMetaData) → Type 0
   HasNextFile None file = ⊥
   HasNextFile (Some place) file = elim place.node [ Primary p ↦ ⊥ | Replica r ↦ IsSomeAnd (running_point r.job) (λ j. IsNextFile j file) | Down d ↦ ⊥ ]
 
   -- a replica is there
-  abbrev pub HasReplica : Option (Place D) → Type 0
+  abbrev pub HasReplica : Option (NodePlace D) → Type 0
   HasReplica None = ⊥
   HasReplica (Some place) = elim place.node [ Primary p ↦ ⊥ | Replica r ↦ ⊤ | Down d ↦ ⊥ ]
 

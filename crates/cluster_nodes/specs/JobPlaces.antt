@@ -4,16 +4,16 @@ use Rattle.std.specs.Global.{Global}
 use Rattle.disk_model.specs.Disk.{Name, Cells, reads_of}
 use Rattle.file_deleter.specs.Holdings.{times}
 use Rattle.searcher_switch.specs.Standing.{StandsForSome}
-use Rattle.replica_state.specs.declared.parts.Parts.{Parts as ReplicaParts}
+use Rattle.replica_state.specs.declared.parts.ReplicaParts.{ReplicaParts}
 use Rattle.copy_state.specs.declared.meta.FileMetaData.{FileMetaData}
 use Rattle.copy_state.specs.States.{meta_in}
 use Rattle.copy_job.specs.declared.copying.Part.{Part}
 use Rattle.copy_job.specs.Jobs.{reads_under}
-use Rattle.primary_state.specs.declared.parts.Parts.{Parts as PrimaryParts}
+use Rattle.primary_state.specs.declared.parts.PrimaryParts.{PrimaryParts}
 use Rattle.primary_state.specs.States.{state_names, is_out}
-use Rattle.cluster_nodes.specs.declared.held.Held.{Held}
+use Rattle.cluster_nodes.specs.declared.held.HeldTicket.{HeldTicket}
 use Rattle.cluster_nodes.specs.declared.nodes.Node.TheVariants.{Primary, Replica}
-use Rattle.cluster_nodes.specs.declared.nodes.Place.{Place}
+use Rattle.cluster_nodes.specs.declared.nodes.NodePlace.{NodePlace}
 use Rattle.cluster_nodes.specs.Places.{place_of, IsSlot, HasPrimary}
 use Rattle.replica_state.specs.Jobs.{running_point}
 use Rattle.cluster_nodes.specs.Outs.{want_of}
@@ -21,32 +21,32 @@ use Rattle.cluster_nodes.specs.JobChanges.{HasReplica, AltersStates, BeginsAt, F
 
 module _ {D : Type 0} where
   -- the primary stands in this place
-  pub record IsPrimaryAt (places : List (Option (Place D))) (p : ℕ) : Type 0 where
+  pub record IsPrimaryAt (places : List (Option (NodePlace D))) (p : ℕ) : Type 0 where
     pub slot : IsSlot places p
     pub parts : PrimaryParts D
-    pub held : Vec Held Global
+    pub held : Vec HeldTicket Global
     pub there : place_of places p ≡ Some (record { node = Primary parts; held = held })
 
   -- a replica stands in this place
-  pub record IsReplicaAt (places : List (Option (Place D))) (n : ℕ) : Type 0 where
+  pub record IsReplicaAt (places : List (Option (NodePlace D))) (n : ℕ) : Type 0 where
     pub slot : IsSlot places n
     pub parts : ReplicaParts D
-    pub held : Vec Held Global
+    pub held : Vec HeldTicket Global
     pub there : place_of places n ≡ Some (record { node = Replica parts; held = held })
 
   -- the primary and a replica stand in these two
-  pub record AreBoth (places : List (Option (Place D))) (p n : ℕ) : Type 0 where
+  pub record AreBoth (places : List (Option (NodePlace D))) (p n : ℕ) : Type 0 where
     pub primary : IsPrimaryAt places p
     pub replica : IsReplicaAt places n
     pub apart : (p == n) ≡ false
 
   -- these stand there now, and all others as before
-  pub record MovesBoth (p n : ℕ) (x y : Place D) (old new : List (Option (Place D))) : Type 0 where
+  pub record MovesBoth (p n : ℕ) (x y : NodePlace D) (old new : List (Option (NodePlace D))) : Type 0 where
     pub count : length new ≡ length old
     pub there : (m : ℕ) → place_of new m ≡ (if n == m then Some y else if p == m then Some x else place_of old m)
 
   -- this stands there now, and all others as before
-  pub record MovesOne (n : ℕ) (x : Place D) (old new : List (Option (Place D))) : Type 0 where
+  pub record MovesOne (n : ℕ) (x : NodePlace D) (old new : List (Option (NodePlace D))) : Type 0 where
     pub count : length new ≡ length old
     pub there : (m : ℕ) → place_of new m ≡ (if n == m then Some x else place_of old m)
 
@@ -58,7 +58,7 @@ module _ {D : Type 0} where
     pub out : IfSome (want_of r.job) (λ s. is_out s q.states ≡ true)
 
   -- the primary and a replica stand in these two places
-  pub record StandThere (p n : ℕ) (places : List (Option (Place D))) : Type 0 where
+  pub record StandThere (p n : ℕ) (places : List (Option (NodePlace D))) : Type 0 where
     pub slot_primary : IsSlot places p
     pub slot_replica : IsSlot places n
     pub apart : (p == n) ≡ false
@@ -66,17 +66,17 @@ module _ {D : Type 0} where
     pub replica : HasReplica (place_of places n)
 
   -- whatever stands there, it is so
-  abbrev pub HoldsOfBoth : (PrimaryParts D → ReplicaParts D → Type 0) → ℕ → ℕ → List (Option (Place D)) → Type 0
-  HoldsOfBoth P p n places = (q : PrimaryParts D) (r : ReplicaParts D) (primary_held held : Vec Held Global)
+  abbrev pub HoldsOfBoth : (PrimaryParts D → ReplicaParts D → Type 0) → ℕ → ℕ → List (Option (NodePlace D)) → Type 0
+  HoldsOfBoth P p n places = (q : PrimaryParts D) (r : ReplicaParts D) (primary_held held : Vec HeldTicket Global)
       → place_of places p ≡ Some (record { node = Primary q; held = primary_held }) → place_of places n ≡ Some (record { node = Replica r; held = held }) → P q r
 
   -- a job can begin at a replica
-  pub record CanBegin (p n : ℕ) (places : List (Option (Place D))) : Type 0 where
+  pub record CanBegin (p n : ℕ) (places : List (Option (NodePlace D))) : Type 0 where
     pub stand : StandThere p n places
     pub may : HoldsOfBoth MayBegin p n places
 
   -- it began, with this number
-  pub record BeginsIn (cells : D → Cells) (p n number : ℕ) (old new : List (Option (Place D))) : Type 0 where
+  pub record BeginsIn (cells : D → Cells) (p n number : ℕ) (old new : List (Option (NodePlace D))) : Type 0 where
     pub both : AreBoth old p n
     pub primary : PrimaryParts D
     pub replica : ReplicaParts D
@@ -91,12 +91,12 @@ module _ {D : Type 0} where
     pub out : IfSome (want_of r.job) (λ s. is_out s q.states ≡ true)
 
   -- the same of what stands there
-  pub record CanFinish (cells : D → Cells) (p n : ℕ) (places : List (Option (Place D))) : Type 0 where
+  pub record CanFinish (cells : D → Cells) (p n : ℕ) (places : List (Option (NodePlace D))) : Type 0 where
     pub stand : StandThere p n places
     pub may : HoldsOfBoth (MayFinish cells) p n places
 
   -- it has ended
-  pub record FinishesIn (cells : D → Cells) (p n : ℕ) (old new : List (Option (Place D))) : Type 0 where
+  pub record FinishesIn (cells : D → Cells) (p n : ℕ) (old new : List (Option (NodePlace D))) : Type 0 where
     pub both : AreBoth old p n
     pub primary : PrimaryParts D
     pub replica : ReplicaParts D
@@ -104,13 +104,13 @@ module _ {D : Type 0} where
     pub finishes : IfSome (running_point both.replica.parts.job) (λ j. FinishesAt cells j both.primary.parts primary both.replica.parts replica)
 
   -- a copy state that is out names the file
-  pub record CanRead (p : ℕ) (name : Name) (places : List (Option (Place D))) : Type 0 where
+  pub record CanRead (p : ℕ) (name : Name) (places : List (Option (NodePlace D))) : Type 0 where
     pub slot : IsSlot places p
     pub primary : HasPrimary (place_of places p)
-    pub out : (q : PrimaryParts D) (held : Vec Held Global) → place_of places p ≡ Some (record { node = Primary q; held = held }) → 0 < times (state_names q.states) name
+    pub out : (q : PrimaryParts D) (held : Vec HeldTicket Global) → place_of places p ≡ Some (record { node = Primary q; held = held }) → 0 < times (state_names q.states) name
 
   -- its bytes were read
-  pub record ReadsIn (cells : D → Cells) (p : ℕ) (name : Name) (bytes : List ℕ) (old new : List (Option (Place D))) : Type 0 where
+  pub record ReadsIn (cells : D → Cells) (p : ℕ) (name : Name) (bytes : List ℕ) (old new : List (Option (NodePlace D))) : Type 0 where
     pub at : IsPrimaryAt old p
     pub primary : PrimaryParts D
     pub moves : MovesOne p (record { node = Primary primary; held = at.held }) old new
@@ -119,15 +119,15 @@ module _ {D : Type 0} where
     pub there : (cells at.parts.dir name).now ≡ Some bytes
 
   -- a replica's job, which runs, can take a part, of the metadata that is wanted of it
-  pub record CanTake (n : ℕ) (part : Part) (places : List (Option (Place D))) : Type 0 where
+  pub record CanTake (n : ℕ) (part : Part) (places : List (Option (NodePlace D))) : Type 0 where
     pub slot : IsSlot places n
     pub replica : HasReplica (place_of places n)
-    pub some : (r : ReplicaParts D) (held : Vec Held Global) → place_of places n ≡ Some (record { node = Replica r; held = held }) → IsSome (running_point r.job)
-    pub wanted : (r : ReplicaParts D) (held : Vec Held Global) → place_of places n ≡ Some (record { node = Replica r; held = held })
+    pub some : (r : ReplicaParts D) (held : Vec HeldTicket Global) → place_of places n ≡ Some (record { node = Replica r; held = held }) → IsSome (running_point r.job)
+    pub wanted : (r : ReplicaParts D) (held : Vec HeldTicket Global) → place_of places n ≡ Some (record { node = Replica r; held = held })
         → IfSome (running_point r.job) (λ j. (meta : FileMetaData) → meta_in j.copy.want.files part.name ≡ Some meta → meta ≡ part.meta)
 
   -- it took it, or did not lack it
-  pub record TakesIn (cells : D → Cells) (n : ℕ) (part : Part) (old new : List (Option (Place D))) : Type 0 where
+  pub record TakesIn (cells : D → Cells) (n : ℕ) (part : Part) (old new : List (Option (NodePlace D))) : Type 0 where
     pub at : IsReplicaAt old n
     pub replica : ReplicaParts D
     pub moves : MovesOne n (record { node = Replica replica; held = at.held }) old new

@@ -4,9 +4,9 @@ use Rattle.std.specs.List.{Contains, flat_map}
 use Rattle.disk_model.specs.Disk.{Name, Cells}
 use Rattle.file_deleter.specs.Holdings.{count_of}
 use Rattle.segment_infos.specs.Files.{files_of_segment}
-use Rattle.primary_state.specs.declared.parts.Parts.{Parts as PrimaryParts}
+use Rattle.primary_state.specs.declared.parts.PrimaryParts.{PrimaryParts}
 use Rattle.searcher_switch.specs.Appearing.{NoneAppears, AppearsOnly}
-use Rattle.replica_state.specs.declared.parts.Parts.{Parts as ReplicaParts}
+use Rattle.replica_state.specs.declared.parts.ReplicaParts.{ReplicaParts}
 use Rattle.replica_state.specs.Sources.{KeepsSource}
 use Rattle.primary_state.specs.Held.{IsOwnFile}
 use Rattle.primary_state.specs.Primary.{KeepsHeldBytes, loose_of}

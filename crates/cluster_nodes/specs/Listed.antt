@@ -6,7 +6,7 @@ use Rattle.std.specs.Ordering.{nat_cmp}
 use Rattle.disk_model.specs.Disk.{Name, Cells, is_among}
 use Rattle.cluster_nodes.specs.declared.nodes.Node.{Node}
 use Rattle.cluster_nodes.specs.declared.nodes.Node.TheVariants.{Primary, Replica, Down}
-use Rattle.cluster_nodes.specs.declared.nodes.Place.{Place}
+use Rattle.cluster_nodes.specs.declared.nodes.NodePlace.{NodePlace}
 
 -- the names are just those that stand in the directory, ascending
 pub record AreNamesOf (cells : Cells) (names : List Name) : Type 0 where
@@ -21,6 +21,6 @@ module _ {D : Type 0} where
   dir_of (Down d) = d
 
   -- the names are those of the node that is there
-  abbrev pub AreNamesAt : (D → Cells) → Option (Place D) → List Name → Type 0
+  abbrev pub AreNamesAt : (D → Cells) → Option (NodePlace D) → List Name → Type 0
   AreNamesAt cells None names = ⊥
   AreNamesAt cells (Some place) names = AreNamesOf (cells (dir_of place.node)) names

@@ -10,13 +10,13 @@ use Rattle.segment_infos.specs.Files.{files_of_segment}
 use Rattle.seg_reader.specs.Stands.{StandsFor}
 use Rattle.replica_opening.specs.Opening.{FindsPoint, number_of_last}
 use Rattle.replica_opening.specs.Opened.{IsHandedBack}
-use Rattle.replica_state.specs.declared.parts.Parts.{Parts as ReplicaParts}
+use Rattle.replica_state.specs.declared.parts.ReplicaParts.{ReplicaParts}
 use Rattle.replica_state.specs.Replica.{IsWholeReplica}
 use Rattle.replica_state.specs.Sources.{IsSourced}
 use Rattle.replica_state.specs.Starting.{IsJustOpened, SearchesJust, HasJustItsFiles}
-use Rattle.cluster_nodes.specs.declared.held.Held.{Held}
+use Rattle.cluster_nodes.specs.declared.held.HeldTicket.{HeldTicket}
 use Rattle.cluster_nodes.specs.declared.nodes.Node.TheVariants.{Replica, Down}
-use Rattle.cluster_nodes.specs.declared.nodes.Place.{Place}
+use Rattle.cluster_nodes.specs.declared.nodes.NodePlace.{NodePlace}
 use Rattle.cluster_nodes.specs.Places.{place_of, dir_of}
 use Rattle.cluster_nodes.specs.JobPlaces.{MovesOne}
 use Rattle.cluster_nodes.specs.Ends.{OthersOutlive}
@@ -24,11 +24,11 @@ use Rattle.cluster_nodes.specs.Ends.{OthersOutlive}
 module _ {D : Type 0} where
   -- The node crashed: its directory is what a crash leaves of it, nothing is held of it any more, and what ends with it has ended at the
   -- others.
-  pub record CrashesIn (cells : D → Cells) (primary : Option NodeNo) (n : ℕ) (old new : List (Option (Place D))) : Type 0 where
-    pub place : Place D
+  pub record CrashesIn (cells : D → Cells) (primary : Option NodeNo) (n : ℕ) (old new : List (Option (NodePlace D))) : Type 0 where
+    pub place : NodePlace D
     pub there : place_of old n ≡ Some place
     pub dir : D
-    pub held : Vec Held Global
+    pub held : Vec HeldTicket Global
     pub none : held.items ≡ []
     pub crashed : HasCrashed (cells (dir_of place.node)) (cells dir)
     pub count : length new ≡ length old
@@ -46,8 +46,8 @@ module _ {D : Type 0} where
     pub only : HasJustItsFiles cells r
 
   -- the node that was down opened on its directory, at this version; what was held of it is held
-  pub record ReopensIn (cells : D → Cells) (n : ℕ) (v : Version) (old new : List (Option (Place D))) : Type 0 where
-    pub place : Place D
+  pub record ReopensIn (cells : D → Cells) (n : ℕ) (v : Version) (old new : List (Option (NodePlace D))) : Type 0 where
+    pub place : NodePlace D
     pub there : place_of old n ≡ Some place
     pub replica : ReplicaParts D
     pub opens : OpensOn cells (dir_of place.node) replica

@@ -4,7 +4,7 @@ use Rattle.primary_state.specs.declared.states.Out.{Out}
 use Rattle.primary_state.specs.States.{out_of, same_out}
 use Rattle.replica_state.specs.declared.job.PointJob.{PointJob}
 use Rattle.cluster_nodes.specs.declared.nodes.Node.TheVariants.{Primary, Replica, Down}
-use Rattle.cluster_nodes.specs.declared.nodes.Place.{Place}
+use Rattle.cluster_nodes.specs.declared.nodes.NodePlace.{NodePlace}
 use Rattle.cluster_nodes.specs.Places.{place_of}
 
 -- the state that a job was begun with, where there is one that runs
@@ -24,11 +24,11 @@ states_like s (t ∷ ts) = one_like s (Some t) + states_like s ts
 
 module _ {D : Type 0} where
   -- the state that the job of a node was begun with
-  abbrev pub want_at : Option (Place D) → Option Out
+  abbrev pub want_at : Option (NodePlace D) → Option Out
   want_at None = None
   want_at (Some place) = elim place.node [ Primary p ↦ None | Replica r ↦ want_of r.job | Down d ↦ None ]
 
   -- how many jobs of the first nodes were begun with a state like it
-  abbrev pub jobs_like : List (Option (Place D)) → Out → ℕ → ℕ
+  abbrev pub jobs_like : List (Option (NodePlace D)) → Out → ℕ → ℕ
   jobs_like places s zero = 0
   jobs_like places s (suc k) = jobs_like places s k + one_like s (want_at (place_of places (suc k)))

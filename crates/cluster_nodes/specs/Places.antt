@@ -7,7 +7,7 @@ use Rattle.searcher_switch.specs.declared.open.Open.{Open}
 use Rattle.searcher_switch.specs.declared.searchers.Searchers.{Searchers}
 use Rattle.cluster_nodes.specs.declared.nodes.Node.{Node}
 use Rattle.cluster_nodes.specs.declared.nodes.Node.TheVariants.{Primary, Replica, Down}
-use Rattle.cluster_nodes.specs.declared.nodes.Place.{Place}
+use Rattle.cluster_nodes.specs.declared.nodes.NodePlace.{NodePlace}
 
 -- what a crash and a reopening ask of a node: its commits where it runs, else its directory
 pub record Disk (D : Type 0) : Type 0 where
@@ -15,26 +15,26 @@ pub record Disk (D : Type 0) : Type 0 where
   pub dir : Option D
 
 module _ {D : Type 0} where
-  abbrev pub unwrapped : Option (Option (Place D)) → Option (Place D)
+  abbrev pub unwrapped : Option (Option (NodePlace D)) → Option (NodePlace D)
   unwrapped None = None
   unwrapped (Some place) = place
 
   -- the node of this number with what goes with it, where it is in its place
-  abbrev pub place_of : List (Option (Place D)) → ℕ → Option (Place D)
+  abbrev pub place_of : List (Option (NodePlace D)) → ℕ → Option (NodePlace D)
   place_of places zero = None
   place_of places (suc k) = unwrapped (slice_get places k)
 
   -- there is a place of this number
-  abbrev pub IsSlot : List (Option (Place D)) → ℕ → Type 0
+  abbrev pub IsSlot : List (Option (NodePlace D)) → ℕ → Type 0
   IsSlot places n = (1 ≤ n) × (n ≤ length places)
 
   -- the primary is there
-  abbrev pub HasPrimary : Option (Place D) → Type 0
+  abbrev pub HasPrimary : Option (NodePlace D) → Type 0
   HasPrimary None = ⊥
   HasPrimary (Some place) = elim place.node [ Primary p ↦ ⊤ | Replica r ↦ ⊥ | Down d ↦ ⊥ ]
 
   -- a running node is there
-  abbrev pub HasRunning : Option (Place D) → Type 0
+  abbrev pub HasRunning : Option (NodePlace D) → Type 0
   HasRunning None = ⊥
   HasRunning (Some place) = elim place.node [ Primary p ↦ ⊤ | Replica r ↦ ⊤ | Down d ↦ ⊥ ]
 
@@ -56,7 +56,7 @@ module _ {D : Type 0} where
   disk_of (Down d) = record { book = None; dir = Some d }
 
   -- that of the node in a place
-  abbrev pub disk_at : Option (Place D) → Option (Disk D)
+  abbrev pub disk_at : Option (NodePlace D) → Option (Disk D)
   disk_at None = None
   disk_at (Some place) = Some (disk_of place.node)
 

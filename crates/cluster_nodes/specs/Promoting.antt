@@ -5,16 +5,16 @@ use Rattle.nrt_base.specs.declared.numbers.Gen.{Gen}
 use Rattle.nrt_base.specs.declared.numbers.Version.{Version}
 use Rattle.disk_model.specs.Disk.{Name, Content, Cells}
 use Rattle.searcher_switch.specs.Appearing.{NoneAppears}
-use Rattle.primary_state.specs.declared.parts.Parts.{Parts as PrimaryParts}
+use Rattle.primary_state.specs.declared.parts.PrimaryParts.{PrimaryParts}
 use Rattle.primary_state.specs.Primary.{IsPrimary}
 use Rattle.primary_state.specs.Held.{AreUndrawn, AreNumbered}
-use Rattle.replica_state.specs.declared.parts.Parts.{Parts as ReplicaParts}
+use Rattle.replica_state.specs.declared.parts.ReplicaParts.{ReplicaParts}
 use Rattle.replica_state.specs.Replica.{IsWholeReplica, AreStanding}
 use Rattle.replica_state.specs.Sources.{HeldReadAs, IsSourced}
 use Rattle.promotion.specs.Generations.{promoted_infos}
-use Rattle.cluster_nodes.specs.declared.held.Held.{Held}
+use Rattle.cluster_nodes.specs.declared.held.HeldTicket.{HeldTicket}
 use Rattle.cluster_nodes.specs.declared.nodes.Node.TheVariants.{Primary, Replica}
-use Rattle.cluster_nodes.specs.declared.nodes.Place.{Place}
+use Rattle.cluster_nodes.specs.declared.nodes.NodePlace.{NodePlace}
 use Rattle.cluster_nodes.specs.Places.{place_of, IsSlot}
 use Rattle.cluster_nodes.specs.JobChanges.{HasReplica}
 use Rattle.cluster_nodes.specs.JobPlaces.{IsReplicaAt, MovesOne}
@@ -52,13 +52,13 @@ module _ {D : Type 0} where
     pub appears : NoneAppears (cells r.dir) (cells p.dir)
 
   -- such a replica stands in this place
-  pub record CanPromoteIn (cells : D → Cells) (generation : Gen) (forced : Version) (n : ℕ) (places : List (Option (Place D))) : Type 0 where
+  pub record CanPromoteIn (cells : D → Cells) (generation : Gen) (forced : Version) (n : ℕ) (places : List (Option (NodePlace D))) : Type 0 where
     pub slot : IsSlot places n
     pub replica : HasReplica (place_of places n)
-    pub can : (r : ReplicaParts D) (held : Vec Held Global) → place_of places n ≡ Some (record { node = Replica r; held = held }) → CanPromote cells generation forced r
+    pub can : (r : ReplicaParts D) (held : Vec HeldTicket Global) → place_of places n ≡ Some (record { node = Replica r; held = held }) → CanPromote cells generation forced r
 
   -- the primary that it became stands there now; the tickets that are held stay held
-  pub record PromotesIn (cells : D → Cells) (generation : Gen) (forced : Version) (n : ℕ) (old new : List (Option (Place D))) : Type 0 where
+  pub record PromotesIn (cells : D → Cells) (generation : Gen) (forced : Version) (n : ℕ) (old new : List (Option (NodePlace D))) : Type 0 where
     pub at : IsReplicaAt old n
     pub primary : PrimaryParts D
     pub moves : MovesOne n (record { node = Primary primary; held = at.held }) old new

@@ -5,13 +5,13 @@ ghost use Rattle.commit_steps.specs.Book.{HasBegun};
 ghost use Rattle.cluster_nodes.specs.Places.{place_of, disk_of, IsSlot};
 ghost use Rattle.cluster_nodes.specs.Commits.{HasStage, HasStageAt, StepsBook, AltersCommits, CommitsIn};
 
-use crate::nodes::{Node, Place, put, take};
+use crate::nodes::{Node, NodePlace, put, take};
 use disk_model::Dir;
 use nrt_base::{NoMemory, NodeNo};
 use searcher_switch::laws::holds_no_more;
 use std::alloc::{AllocError, Global};
 
-// Begins a commit of the point that a node searches. `Err` is want of memory, or of a number below 2^62.
+// Begins a commit of the point that a node searches. It fails when out of memory, or out of numbers below 2^62.
 fn begin_at<D: Dir + Drop>(alloc: Global, node: &mut Node<D>) -> Result<(), NoMemory>
     requires { HasStage (λ stage. stage ≡ None) (disk_of node.old).book }
     ensures { OnOk result (AltersCommits HasBegun D.cells node.old node.new) }
@@ -36,8 +36,8 @@ fn begin_at<D: Dir + Drop>(alloc: Global, node: &mut Node<D>) -> Result<(), NoMe
     }
 }
 
-// Makes the next call of the directory for the commit in flight of a node, and answers whether the commit is made. `Err` is want of
-// memory, or a disk that failed.
+// Makes the next call of the directory for the commit in flight of a node, and answers whether the commit is made. It fails when out of
+// memory or when the disk fails.
 fn step_at<D: Dir + Drop>(alloc: Global, node: &mut Node<D>) -> Result<bool, NoMemory>
     requires { HasStage IsSome (disk_of node.old).book }
     ensures { IfOk result (λ done. AltersCommits (StepsBook done) D.cells node.old node.new) }
@@ -60,10 +60,10 @@ fn step_at<D: Dir + Drop>(alloc: Global, node: &mut Node<D>) -> Result<bool, NoM
     }
 }
 
-/// Begins a commit of the point that the node in a place searches. `Err` is want of memory, or of a number below 2^62.
+/// Begins a commit of the point that the node in a place searches. It fails when out of memory, or out of numbers below 2^62.
 pub fn begin_commit_in<D: Dir + Drop>(
     alloc: Global,
-    places: &mut Vec<Option<Place<D>>>,
+    places: &mut Vec<Option<NodePlace<D>>>,
     n: NodeNo,
 ) -> Result<(), NoMemory>
     requires slot { IsSlot places.old.items n.0 }
@@ -78,10 +78,10 @@ pub fn begin_commit_in<D: Dir + Drop>(
 }
 
 /// Makes the next call of the directory for the commit in flight of the node in a place, and answers whether the commit is made.
-/// `Err` is want of memory, or a disk that failed.
+/// It fails when out of memory or when the disk fails.
 pub fn step_commit_in<D: Dir + Drop>(
     alloc: Global,
-    places: &mut Vec<Option<Place<D>>>,
+    places: &mut Vec<Option<NodePlace<D>>>,
     n: NodeNo,
 ) -> Result<bool, NoMemory>
     requires slot { IsSlot places.old.items n.0 }

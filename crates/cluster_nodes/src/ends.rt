@@ -9,7 +9,7 @@ ghost use Rattle.cluster_nodes.specs.Places.{place_of, IsSlot};
 ghost use Rattle.cluster_nodes.specs.Ends.{StopsNodeJob, StopsPlaceJob, CanTakeBack, TakesBackIn, CanEnd, EndsWith};
 
 use crate::jobs::stop_job;
-use crate::nodes::{Node, Place, primary_in, put, take};
+use crate::nodes::{Node, NodePlace, primary_in, put, take};
 use crate::states::state_of;
 use copy_state::CopyState;
 use disk_model::Dir;
@@ -28,7 +28,7 @@ fn stop_node_job<D: Dir + Drop>(node: &mut Node<D>)
 }
 
 // The same of the node that is there.
-fn stop_place_job<D: Dir + Drop>(slot: &mut Option<Place<D>>)
+fn stop_place_job<D: Dir + Drop>(slot: &mut Option<NodePlace<D>>)
     ensures { StopsPlaceJob D.cells slot.old slot.new }
 {
     match slot {
@@ -38,7 +38,7 @@ fn stop_place_job<D: Dir + Drop>(slot: &mut Option<Place<D>>)
 }
 
 // The same of the node in a place.
-fn stop_job_at<D: Dir + Drop>(places: &mut Vec<Option<Place<D>>>, n: usize)
+fn stop_job_at<D: Dir + Drop>(places: &mut Vec<Option<NodePlace<D>>>, n: usize)
     requires { IsSlot places.old.items n }
     ensures count { length places.new.items ≡ length places.old.items }
     ensures stops { StopsPlaceJob D.cells (place_of places.old.items n) (place_of places.new.items n) }
@@ -49,7 +49,7 @@ fn stop_job_at<D: Dir + Drop>(places: &mut Vec<Option<Place<D>>>, n: usize)
 }
 
 // Stops the job of each replica.
-fn stop_jobs<D: Dir + Drop>(places: &mut Vec<Option<Place<D>>>)
+fn stop_jobs<D: Dir + Drop>(places: &mut Vec<Option<NodePlace<D>>>)
     ensures count { length places.new.items ≡ length places.old.items }
     ensures each { (m : ℕ)
         → StopsPlaceJob D.cells (place_of places.old.items m) (place_of places.new.items m) }
@@ -60,7 +60,10 @@ fn stop_jobs<D: Dir + Drop>(places: &mut Vec<Option<Place<D>>>)
 }
 
 // A second value of the copy state that the job of the node that is there was begun with, where one runs.
-fn state_at<D: Dir + Drop>(alloc: Global, place: &Place<D>) -> Result<Option<CopyState>, NoMemory>
+fn state_at<D: Dir + Drop>(
+    alloc: Global,
+    place: &NodePlace<D>,
+) -> Result<Option<CopyState>, NoMemory>
     ensures { IfOk result (λ state. option_map out_of state ≡ want_at (Some place.now)) }
 {
     match &place.node {
@@ -73,7 +76,7 @@ fn state_at<D: Dir + Drop>(alloc: Global, place: &Place<D>) -> Result<Option<Cop
 // The same of the node in a place.
 fn state_in<D: Dir + Drop>(
     alloc: Global,
-    places: &Vec<Option<Place<D>>>,
+    places: &Vec<Option<NodePlace<D>>>,
     n: NodeNo,
 ) -> Result<Option<CopyState>, NoMemory>
     requires { IsSlot places.now.items n.0 }
@@ -89,7 +92,7 @@ fn state_in<D: Dir + Drop>(
 // Gives the copy state of a node's job back at the primary.
 fn take_back<D: Dir + Drop>(
     alloc: Global,
-    places: &mut Vec<Option<Place<D>>>,
+    places: &mut Vec<Option<NodePlace<D>>>,
     p: NodeNo,
     n: NodeNo,
 ) -> Result<(), NoMemory>
@@ -103,14 +106,14 @@ fn take_back<D: Dir + Drop>(
     let (mut primary, held) = primary_in(take(places, p));
     primary.give_back(state);
     let node = Node::Primary(primary);
-    put(places, p, Place { node, held });
+    put(places, p, NodePlace { node, held });
     Ok(())
 }
 
 /// Stops and ends what a node that crashes leaves at the others.
 pub fn end_with<D: Dir + Drop>(
     alloc: Global,
-    places: &mut Vec<Option<Place<D>>>,
+    places: &mut Vec<Option<NodePlace<D>>>,
     primary: Option<NodeNo>,
     n: NodeNo,
 ) -> Result<(), NoMemory>

@@ -9,32 +9,33 @@ use nrt_base::{At, LaneNo, NoMemory, TicketNo};
 
 /// For what a ticket of a node is held: a ticket of a lane, or the search of a line.
 #[derive(Clone, Copy, Debug, PartialEq, Eq)]
-pub enum Key {
+pub enum HeldKey {
     Ticket { lane: LaneNo, t: TicketNo },
     Search { at: At },
 }
 
 /// A ticket of a node that is held, by its number there.
 #[derive(Clone, Copy, Debug, PartialEq, Eq)]
-pub struct Held {
-    pub key: Key,
+pub struct HeldTicket {
+    pub key: HeldKey,
     pub number: u64,
 }
 
 // Whether the two are one.
-fn same_key(a: Key, b: Key) -> bool
+fn same_key(a: HeldKey, b: HeldKey) -> bool
     ensures { result ≡ same_key a b }
 {
     match (a, b) {
-        (Key::Ticket { lane, t }, Key::Ticket { lane: l, t: u }) => lane.0 == l.0 && t.0 == u.0,
-        (Key::Search { at }, Key::Search { at: b }) => same_at(at, b),
-        (Key::Ticket { .. }, Key::Search { .. }) => false,
-        (Key::Search { .. }, Key::Ticket { .. }) => false,
+        (HeldKey::Ticket { lane, t }, HeldKey::Ticket { lane: l, t: u }) => lane.0 == l.0
+            && t.0 == u.0,
+        (HeldKey::Search { at }, HeldKey::Search { at: b }) => same_at(at, b),
+        (HeldKey::Ticket { .. }, HeldKey::Search { .. }) => false,
+        (HeldKey::Search { .. }, HeldKey::Ticket { .. }) => false,
     }
 }
 
 /// The number of the ticket that is held for this.
-pub fn number_held(held: &[Held], key: Key) -> Option<u64>
+pub fn number_held(held: &[HeldTicket], key: HeldKey) -> Option<u64>
     ensures { result ≡ held_number held.now key }
 {
     for row in held {
@@ -46,23 +47,23 @@ pub fn number_held(held: &[Held], key: Key) -> Option<u64>
 }
 
 /// Holds a ticket for this.
-pub fn hold(held: &mut Vec<Held>, key: Key, number: u64) -> Result<(), NoMemory>
+pub fn hold(held: &mut Vec<HeldTicket>, key: HeldKey, number: u64) -> Result<(), NoMemory>
     ensures { OnOk result ((k : _) → held_number held.new.items k
         ≡ (if same_key key k then Some number else held_number held.old.items k)) }
 {
-    held.insert(0, Held { key, number })?;
+    held.insert(0, HeldTicket { key, number })?;
     Ok(())
 }
 
 /// Holds no ticket for this any more.
-pub fn let_go(held: &mut Vec<Held>, key: Key)
+pub fn let_go(held: &mut Vec<HeldTicket>, key: HeldKey)
     ensures { (k : _) → held_number held.new.items k
         ≡ (if same_key key k then None else held_number held.old.items k) }
 {
     without(held, key);
 }
 
-fn without(held: &mut Vec<Held>, key: Key)
+fn without(held: &mut Vec<HeldTicket>, key: HeldKey)
     ensures { held.new.items ≡ filter (λ h. not (same_key h.key key)) held.old.items }
 {
     held.retain(|row| !same_key(row.key, key));

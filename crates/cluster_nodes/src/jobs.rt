@@ -44,7 +44,7 @@ fn give_back<D: Dir + Drop>(primary: &mut Primary<D>, state: Option<CopyState>)
 }
 
 /// Begins a job of the primary's point at a replica that is behind it, and answers its number. It takes over what it wants of an older
-/// job, and gives the state of that one back where it ran. `Err` is want of memory, or of a number below 2^63.
+/// job, and gives the state of that one back where it ran. It fails when out of memory, or out of numbers below 2^63.
 pub fn begin_job<D: Dir + Drop>(
     alloc: Global,
     primary: &mut Primary<D>,

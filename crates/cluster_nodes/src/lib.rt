@@ -15,11 +15,11 @@ mod tickets;
 mod transfers;
 
 pub use commits::{begin_commit_in, step_commit_in};
-pub use held::Key;
+pub use held::HeldKey;
 pub use index_primary::{FlushTask, FlushWork, Primary, PublishFault};
 pub use lists::names_in;
 pub use lives::{crash_in, reopen_in};
-pub use nodes::{Node, Place, primary_in, put, take};
+pub use nodes::{Node, NodePlace, primary_in, put, take};
 pub use promoting::promote_in;
 pub use replica_node::laws::{copy_runs, files_last, sourced_stands};
 pub use replica_node::{NodeParts, Replica};

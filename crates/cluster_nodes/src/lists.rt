@@ -4,14 +4,14 @@ ghost use Rattle.std.specs.Prelude.{◌≡◌, IfOk};
 ghost use Rattle.cluster_nodes.specs.Places.{place_of, IsSlot, HasRunning};
 ghost use Rattle.cluster_nodes.specs.Listed.{AreNamesAt};
 
-use crate::nodes::{Node, Place};
+use crate::nodes::{Node, NodePlace};
 use disk_model::Dir;
 use file_names::FileName;
 use nrt_base::{List, NoMemory, NodeNo};
 use std::alloc::Global;
 
 // The names in the directory of a running node, ascending.
-fn names_of<D: Dir + Drop>(alloc: Global, place: &Place<D>) -> Result<List<FileName>, NoMemory>
+fn names_of<D: Dir + Drop>(alloc: Global, place: &NodePlace<D>) -> Result<List<FileName>, NoMemory>
     requires { HasRunning (Some place.now) }
     ensures { IfOk result (AreNamesAt D.cells (Some place.now)) }
 {
@@ -31,7 +31,7 @@ fn names_of<D: Dir + Drop>(alloc: Global, place: &Place<D>) -> Result<List<FileN
 /// The names in the directory of the running node in this place, ascending.
 pub fn names_in<D: Dir + Drop>(
     alloc: Global,
-    places: &Vec<Option<Place<D>>>,
+    places: &Vec<Option<NodePlace<D>>>,
     n: NodeNo,
 ) -> Result<List<FileName>, NoMemory>
     requires slot { IsSlot places.now.items n.0 }

@@ -1,14 +1,14 @@
 //! Crashes and reopenings of nodes in their places.
 
 ghost use Rattle.std.specs.Prelude.{◌≡◌, ◌≢◌, None, Some, OnOk, IfOk};
-ghost use Rattle.cluster_nodes.specs.declared.nodes.Place.{Place};
+ghost use Rattle.cluster_nodes.specs.declared.nodes.NodePlace.{NodePlace};
 ghost use Rattle.replica_opening.specs.Opened.{IsSettledOn};
 ghost use Rattle.cluster_nodes.specs.Places.{place_of, dir_of, IsSlot};
 ghost use Rattle.cluster_nodes.specs.Ends.{CanEnd};
 ghost use Rattle.cluster_nodes.specs.Lives.{CrashesIn, OpensOn, ReopensIn};
 
 use crate::ends::end_with;
-use crate::nodes::{Node, Place, put, take};
+use crate::nodes::{Node, NodePlace, put, take};
 use disk_model::{Dir, FaultDir};
 use nrt_base::{NoMemory, NodeNo, Version};
 use replica_node::Replica;
@@ -28,7 +28,7 @@ fn dir_in<D: Dir + Drop>(node: Node<D>) -> D
 /// Crashes a node, by the running primary. The number picks among what a crash may leave of its directory.
 pub fn crash_in<D: FaultDir + Drop>(
     alloc: Global,
-    places: &mut Vec<Option<Place<D>>>,
+    places: &mut Vec<Option<NodePlace<D>>>,
     primary: Option<NodeNo>,
     n: NodeNo,
     pick: u64,
@@ -39,7 +39,7 @@ pub fn crash_in<D: FaultDir + Drop>(
     ensures { OnOk result (CrashesIn D.cells primary n.0 places.old.items places.new.items) }
 {
     end_with(alloc, places, primary, n)?;
-    let Place {
+    let NodePlace {
         node,
         held: tickets,
     } = take(places, n);
@@ -48,11 +48,11 @@ pub fn crash_in<D: FaultDir + Drop>(
     let crashed = dir.crash(pick);
     let node = Node::Down(dir);
     let held = Vec::new(alloc);
-    put(places, n, Place { node, held });
+    put(places, n, NodePlace { node, held });
     crashed
 }
 
-// A replica on this directory. `Err` is want of memory, or a disk that failed.
+// A replica on this directory. It fails when out of memory or when the disk fails.
 fn open_on<D: Dir + Drop>(alloc: Global, dir: D) -> Result<Replica<D>, NoMemory>
     requires { IsSettledOn (D.cells dir) }
     ensures { IfOk result (OpensOn D.cells dir) }
@@ -63,26 +63,26 @@ fn open_on<D: Dir + Drop>(alloc: Global, dir: D) -> Result<Replica<D>, NoMemory>
     }
 }
 
-/// Opens a replica on the directory of a node that is down, and answers the version that it searches. `Err` is want of memory, or a
-/// disk that failed.
+/// Opens a replica on the directory of a node that is down, and answers the version that it searches. It fails when out of memory or when the
+/// disk fails.
 pub fn reopen_in<D: Dir + Drop>(
     alloc: Global,
-    places: &mut Vec<Option<Place<D>>>,
+    places: &mut Vec<Option<NodePlace<D>>>,
     n: NodeNo,
 ) -> Result<Version, NoMemory>
     requires slot { IsSlot places.old.items n.0 }
     requires there { place_of places.old.items n.0 ≢ None }
-    requires settled { (place : Place D) → place_of places.old.items n.0 ≡ Some place
+    requires settled { (place : NodePlace D) → place_of places.old.items n.0 ≡ Some place
         → IsSettledOn (D.cells (dir_of place.node)) }
     ensures { IfOk result (λ v. ReopensIn D.cells n.0 v places.old.items places.new.items) }
 {
-    let Place { node, held } = take(places, n);
+    let NodePlace { node, held } = take(places, n);
     let dir = dir_in(node);
     match open_on(alloc, dir) {
         Ok(replica) => {
             let version = replica.version();
             let node = Node::Replica(replica);
-            put(places, n, Place { node, held });
+            put(places, n, NodePlace { node, held });
             Ok(version)
         }
         Err(fault) => {

@@ -3,7 +3,7 @@
 ghost use Rattle.std.specs.Prelude.{ℕ, ◌≡◌, ◌≢◌, ◌==◌, if◌then◌else◌, None, Some, length};
 ghost use Rattle.cluster_nodes.specs.Places.{place_of, IsSlot, HasPrimary};
 
-use crate::held::Held;
+use crate::held::HeldTicket;
 use disk_model::Dir;
 use index_primary::Primary;
 use nrt_base::NodeNo;
@@ -20,13 +20,13 @@ pub enum Node<D: Dir> {
 
 /// A node with the tickets of it that are held. They are gone with it at a crash.
 #[derive(Drop)]
-pub struct Place<D: Dir> {
+pub struct NodePlace<D: Dir> {
     pub node: Node<D>,
-    pub held: Vec<Held>,
+    pub held: Vec<HeldTicket>,
 }
 
 /// Takes a node out of its place.
-pub fn take<D: Dir + Drop>(places: &mut Vec<Option<Place<D>>>, n: NodeNo) -> Place<D>
+pub fn take<D: Dir + Drop>(places: &mut Vec<Option<NodePlace<D>>>, n: NodeNo) -> NodePlace<D>
     requires slot { IsSlot places.old.items n.0 }
     requires there { place_of places.old.items n.0 ≢ None }
     ensures place { place_of places.old.items n.0 ≡ Some result }
@@ -39,7 +39,7 @@ pub fn take<D: Dir + Drop>(places: &mut Vec<Option<Place<D>>>, n: NodeNo) -> Pla
 }
 
 /// Puts a node in its place.
-pub fn put<D: Dir + Drop>(places: &mut Vec<Option<Place<D>>>, n: NodeNo, place: Place<D>)
+pub fn put<D: Dir + Drop>(places: &mut Vec<Option<NodePlace<D>>>, n: NodeNo, place: NodePlace<D>)
     requires slot { IsSlot places.old.items n.0 }
     ensures count { length places.new.items ≡ length places.old.items }
     ensures places { (m : ℕ) → place_of places.new.items m
@@ -49,11 +49,11 @@ pub fn put<D: Dir + Drop>(places: &mut Vec<Option<Place<D>>>, n: NodeNo, place: 
 }
 
 /// The primary that is in this place.
-pub fn primary_in<D: Dir + Drop>(place: Place<D>) -> (Primary<D>, Vec<Held>)
+pub fn primary_in<D: Dir + Drop>(place: NodePlace<D>) -> (Primary<D>, Vec<HeldTicket>)
     requires { HasPrimary (Some place) }
     ensures { place ≡ record { node = Node.Primary result.0; held = result.1 } }
 {
-    let Place { node, held } = place;
+    let NodePlace { node, held } = place;
     match node {
         Node::Primary(primary) => (primary, held),
         Node::Replica(_) => unreachable!(),

@@ -12,7 +12,7 @@ ghost use Rattle.promotion.specs.declared.fault.PromoteFault.TheVariants.{Memory
 ghost use Rattle.promotion.specs.Generations.{promoted_infos};
 ghost use Rattle.cluster_nodes.specs.Promoting.{CanPromote, PromotesTo, CanPromoteIn, PromotesIn};
 
-use crate::nodes::{Node, Place, put};
+use crate::nodes::{Node, NodePlace, put};
 use crate::transfers::take_replica;
 use disk_model::Dir;
 use index_primary::Primary;
@@ -22,7 +22,7 @@ use replica_node::{NodeParts, Replica};
 use segment_infos::Infos;
 use std::alloc::{AllocError, Global};
 
-// The fault that is want of memory.
+// The fault that says "out of memory".
 fn memory(fault: PromoteFault) -> NoMemory
     requires { fault ≡ Memory }
 {
@@ -96,7 +96,7 @@ fn promoted<D: Dir + Drop>(
 /// Promotes the replica in this place: it is the primary of this generation, at one version above the forced one.
 pub fn promote_in<D: Dir + Drop>(
     alloc: Global,
-    places: &mut Vec<Option<Place<D>>>,
+    places: &mut Vec<Option<NodePlace<D>>>,
     n: NodeNo,
     generation: Gen,
     forced: Version,
@@ -109,7 +109,7 @@ pub fn promote_in<D: Dir + Drop>(
     match promoted(alloc, replica, generation, forced) {
         Ok(primary) => {
             let node = Node::Primary(primary);
-            put(places, n, Place { node, held });
+            put(places, n, NodePlace { node, held });
             Ok(())
         }
         Err(fault) => {

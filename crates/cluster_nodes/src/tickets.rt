@@ -8,8 +8,8 @@ ghost use Rattle.cluster_nodes.specs.Places.{place_of, IsSlot, searchers_of, tic
 ghost use Rattle.cluster_nodes.specs.KeptFiles.{KeepsNodeFiles};
 ghost use Rattle.cluster_nodes.specs.Changes.{KeepsNode, OpensTicket, HoldsMore, HoldsLess, HoldsTicket, IsLeaseUnder};
 
-use crate::held::{Held, Key, hold, let_go, number_held};
-use crate::nodes::{Node, Place};
+use crate::held::{HeldKey, HeldTicket, hold, let_go, number_held};
+use crate::nodes::{Node, NodePlace};
 use disk_model::Dir;
 use nrt_base::{NoMemory, NodeNo};
 use primary_state::{Lease, Ticket};
@@ -53,8 +53,8 @@ fn release<D: Dir + Drop>(node: &mut Node<D>, number: u64)
 /// Holds a ticket of a running node for this.
 pub fn hold_ticket<D: Dir + Drop>(
     alloc: Global,
-    place: &mut Place<D>,
-    key: Key,
+    place: &mut NodePlace<D>,
+    key: HeldKey,
 ) -> Result<(), NoMemory>
     requires { IsSome (searchers_of place.old.node) }
     ensures keeps { OnOk result (KeepsNode D.cells place.old.node place.new.node) }
@@ -84,7 +84,7 @@ fn lease_of<D: Dir + Drop>(
 }
 
 /// Gives back the ticket that is held for this, if one is.
-pub fn give_ticket_back<D: Dir + Drop>(place: &mut Place<D>, key: Key)
+pub fn give_ticket_back<D: Dir + Drop>(place: &mut NodePlace<D>, key: HeldKey)
     requires { IfSome (held_number place.old.held.items key)
         (λ number. is_some (ticket_at number (tickets_of place.old.node)) ≡ true) }
     ensures keeps { KeepsNode D.cells place.old.node place.new.node }
@@ -101,8 +101,8 @@ pub fn give_ticket_back<D: Dir + Drop>(place: &mut Place<D>, key: Key)
 // What a search reads under the ticket that a node holds for this.
 fn lease_under<D: Dir + Drop>(
     alloc: Global,
-    place: &Place<D>,
-    key: Key,
+    place: &NodePlace<D>,
+    key: HeldKey,
 ) -> Result<Lease<Segment>, NoMemory>
     requires { HoldsTicket (Some place.now) key }
     ensures { IfOk result (IsLeaseUnder (Some place.now) key) }
@@ -116,9 +116,9 @@ fn lease_under<D: Dir + Drop>(
 /// What a search reads under the ticket that the node in this place holds for this.
 pub fn lease_in<D: Dir + Drop>(
     alloc: Global,
-    places: &Vec<Option<Place<D>>>,
+    places: &Vec<Option<NodePlace<D>>>,
     n: NodeNo,
-    key: Key,
+    key: HeldKey,
 ) -> Result<Lease<Segment>, NoMemory>
     requires slot { IsSlot places.now.items n.0 }
     requires held { HoldsTicket (place_of places.now.items n.0) key }

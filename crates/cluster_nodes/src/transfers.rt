@@ -6,9 +6,9 @@ ghost use Rattle.cluster_nodes.specs.Places.{place_of, IsSlot, HasPrimary};
 ghost use Rattle.cluster_nodes.specs.JobChanges.{HasReplica, HasJob, HasNextFile};
 ghost use Rattle.cluster_nodes.specs.JobPlaces.{CanBegin, BeginsIn, CanFinish, FinishesIn, CanRead, ReadsIn, CanTake, TakesIn};
 
-use crate::held::Held;
+use crate::held::HeldTicket;
 use crate::jobs::{begin_job, finish_job, take_part};
-use crate::nodes::{Node, Place, primary_in, put, take};
+use crate::nodes::{Node, NodePlace, primary_in, put, take};
 use crate::states::next_lacking;
 use bytes::Bytes;
 use copy_job::Part;
@@ -21,11 +21,11 @@ use replica_node::Replica;
 use std::alloc::{AllocError, Global};
 
 // The replica that is in this place.
-fn replica_in<D: Dir + Drop>(place: Place<D>) -> (Replica<D>, Vec<Held>)
+fn replica_in<D: Dir + Drop>(place: NodePlace<D>) -> (Replica<D>, Vec<HeldTicket>)
     requires { HasReplica (Some place) }
     ensures { place ≡ record { node = Node.Replica result.0; held = result.1 } }
 {
-    let Place { node, held } = place;
+    let NodePlace { node, held } = place;
     match node {
         Node::Replica(replica) => (replica, held),
         Node::Primary(_) => unreachable!(),
@@ -35,9 +35,9 @@ fn replica_in<D: Dir + Drop>(place: Place<D>) -> (Replica<D>, Vec<Held>)
 
 /// Takes the primary out of its place.
 pub fn take_primary<D: Dir + Drop>(
-    places: &mut Vec<Option<Place<D>>>,
+    places: &mut Vec<Option<NodePlace<D>>>,
     p: NodeNo,
-) -> (Primary<D>, Vec<Held>)
+) -> (Primary<D>, Vec<HeldTicket>)
     requires slot { IsSlot places.old.items p.0 }
     requires there { HasPrimary (place_of places.old.items p.0) }
     ensures place { place_of places.old.items p.0
@@ -51,9 +51,9 @@ pub fn take_primary<D: Dir + Drop>(
 
 /// Takes a replica out of its place.
 pub fn take_replica<D: Dir + Drop>(
-    places: &mut Vec<Option<Place<D>>>,
+    places: &mut Vec<Option<NodePlace<D>>>,
     n: NodeNo,
-) -> (Replica<D>, Vec<Held>)
+) -> (Replica<D>, Vec<HeldTicket>)
     requires slot { IsSlot places.old.items n.0 }
     requires there { HasReplica (place_of places.old.items n.0) }
     ensures place { place_of places.old.items n.0
@@ -68,7 +68,7 @@ pub fn take_replica<D: Dir + Drop>(
 /// Begins a job of the primary's point at a replica, and answers its number.
 pub fn begin_in<D: Dir + Drop>(
     alloc: Global,
-    places: &mut Vec<Option<Place<D>>>,
+    places: &mut Vec<Option<NodePlace<D>>>,
     p: NodeNo,
     n: NodeNo,
 ) -> Result<u64, NoMemory>
@@ -85,13 +85,13 @@ pub fn begin_in<D: Dir + Drop>(
 
 // Puts the primary and a replica in their places.
 fn put_both<D: Dir + Drop>(
-    places: &mut Vec<Option<Place<D>>>,
+    places: &mut Vec<Option<NodePlace<D>>>,
     p: NodeNo,
     n: NodeNo,
     primary: Primary<D>,
-    primary_held: Vec<Held>,
+    primary_held: Vec<HeldTicket>,
     replica: Replica<D>,
-    held: Vec<Held>,
+    held: Vec<HeldTicket>,
 )
     requires slot_primary { IsSlot places.old.items p.0 }
     requires slot_replica { IsSlot places.old.items n.0 }
@@ -105,19 +105,19 @@ fn put_both<D: Dir + Drop>(
     put(
         places,
         p,
-        Place {
+        NodePlace {
             node,
             held: primary_held,
         },
     );
     let node = Node::Replica(replica);
-    put(places, n, Place { node, held });
+    put(places, n, NodePlace { node, held });
 }
 
 /// Searches the point of a replica's job, of which nothing is missing. The job has ended.
 pub fn finish_in<D: Dir + Drop>(
     alloc: Global,
-    places: &mut Vec<Option<Place<D>>>,
+    places: &mut Vec<Option<NodePlace<D>>>,
     p: NodeNo,
     n: NodeNo,
 ) -> Result<(), NoMemory>
@@ -133,7 +133,7 @@ pub fn finish_in<D: Dir + Drop>(
 
 /// The bytes of a file that a copy state which is out names.
 pub fn read_in<D: Dir + Drop>(
-    places: &mut Vec<Option<Place<D>>>,
+    places: &mut Vec<Option<NodePlace<D>>>,
     p: NodeNo,
     name: &FileName,
 ) -> Result<Bytes, NoMemory>
@@ -144,7 +144,7 @@ pub fn read_in<D: Dir + Drop>(
     let (mut primary, held) = take_primary(places, p);
     let read = primary.source(name);
     let node = Node::Primary(primary);
-    put(places, p, Place { node, held });
+    put(places, p, NodePlace { node, held });
     match read {
         Ok(bytes) => Ok(bytes),
         Err(_) => Err(AllocError),
@@ -153,7 +153,7 @@ pub fn read_in<D: Dir + Drop>(
 
 /// Puts a part into the job of a replica, where the job lacks it still.
 pub fn take_in<D: Dir + Drop>(
-    places: &mut Vec<Option<Place<D>>>,
+    places: &mut Vec<Option<NodePlace<D>>>,
     n: NodeNo,
     part: Part,
 ) -> Result<(), NoMemory>
@@ -164,14 +164,14 @@ pub fn take_in<D: Dir + Drop>(
     let (mut replica, held) = take_replica(places, n);
     let taken = take_part(&mut replica, part);
     let node = Node::Replica(replica);
-    put(places, n, Place { node, held });
+    put(places, n, NodePlace { node, held });
     taken
 }
 
 // The next file that the job of this replica lacks.
 fn next_of<D: Dir + Drop>(
     alloc: Global,
-    place: &Place<D>,
+    place: &NodePlace<D>,
 ) -> Result<Option<(FileName, FileMetaData)>, NoMemory>
     requires { HasJob (Some place.now) }
     ensures { IfOk result (HasNextFile (Some place.now)) }
@@ -186,7 +186,7 @@ fn next_of<D: Dir + Drop>(
 /// The next file that the job of the replica in this place lacks, with the metadata that is wanted of it.
 pub fn next_in<D: Dir + Drop>(
     alloc: Global,
-    places: &Vec<Option<Place<D>>>,
+    places: &Vec<Option<NodePlace<D>>>,
     n: NodeNo,
 ) -> Result<Option<(FileName, FileMetaData)>, NoMemory>
     requires slot { IsSlot places.now.items n.0 }

@@ -21,7 +21,7 @@ use Rattle.history_book.specs.Log.{Log, printed, shown}
 use Rattle.history_book.specs.Laws.{Flying}
 use Rattle.history_book.specs.Turns.{AreInTurn}
 use Rattle.merge_tasks.specs.Merging.{Sheet}
-use Rattle.primary_state.specs.declared.parts.Parts.{Parts as PrimaryParts}
+use Rattle.primary_state.specs.declared.parts.PrimaryParts.{PrimaryParts}
 use Rattle.primary_state.specs.declared.parts.Publish.{Publish}
 use Rattle.primary_state.specs.declared.states.Out.{Out}
 use Rattle.primary_state.specs.Held.{IsOwnFile}
@@ -29,10 +29,10 @@ use Rattle.primary_state.specs.Primary.{IsPrimary, KeepsHeldBytes, loose_of, res
 use Rattle.primary_state.specs.Calls.{KeepsPoint, HasSameCounts, DrawsOnly}
 use Rattle.replica_state.specs.Given.{IsLasting}
 use Rattle.merge_tasks.specs.Board.{Board}
-use Rattle.cluster_nodes.specs.declared.held.Held.{Held}
+use Rattle.cluster_nodes.specs.declared.held.HeldTicket.{HeldTicket}
 use Rattle.cluster_nodes.specs.declared.nodes.Node.{Node}
 use Rattle.cluster_nodes.specs.declared.nodes.Node.TheVariants.{Primary}
-use Rattle.cluster_nodes.specs.declared.nodes.Place.{Place}
+use Rattle.cluster_nodes.specs.declared.nodes.NodePlace.{NodePlace}
 use Rattle.cluster_nodes.specs.Outs.{states_like, jobs_like}
 use Rattle.cluster_nodes.specs.Places.{place_of}
 use Rattle.cluster_nodes.specs.JobPlaces.{MovesOne}
@@ -89,7 +89,7 @@ module _ {D : Type 0} (cells : D → Cells) where
     flight = subst (λ (o : Option At). FlightShows (shown at (Refused DiskFault) ∷ log) o None p.segs) (sym (ap (λ (o : Option At). without_at at o) flight ∙ ap (λ (b : Bool). if b then None else Some at) (same_at_self at))) refl;
   }
 
-  given_up_place : (size : ℕ) (log : Log) (at : At) (n : ℕ) (p q : PrimaryParts D) (held : Vec Held Global) → IsLegalPast size (printed log) → KeepsRule size (printed log) at (Refused DiskFault) → publish_in_flight (printed log) ≡ Some at
+  given_up_place : (size : ℕ) (log : Log) (at : At) (n : ℕ) (p q : PrimaryParts D) (held : Vec HeldTicket Global) → IsLegalPast size (printed log) → KeepsRule size (printed log) at (Refused DiskFault) → publish_in_flight (printed log) ≡ Some at
       → KeepsPoint p q → q.publish ≡ None → IsPrimary cells q → PlaceShows cells log n (record { node = Primary p; held = held }) → PlaceShows cells (shown at (Refused DiskFault) ∷ log) n (record { node = Primary q; held = held })
   given_up_place size log at n p q held legal keeps flight point none whole was = record {
     node_shows = subst (λ (z : PrimaryParts D). PrimaryShows cells (shown at (Refused DiskFault) ∷ log) n z) (sym (given_up_is p q point none))
@@ -134,13 +134,13 @@ module _ {D : Type 0} (cells : D → Cells) where
   }
 
   -- the primary gave up files of its own
-  pub files_given : (size : ℕ) (log now : Log) (old new : List (Option (Place D))) (n : ℕ) (p q : PrimaryParts D) (held : Vec Held Global) → FilesLast → Grows (printed log) (printed now) → CarriesNoMore log now
+  pub files_given : (size : ℕ) (log now : Log) (old new : List (Option (NodePlace D))) (n : ℕ) (p q : PrimaryParts D) (held : Vec HeldTicket Global) → FilesLast → Grows (printed log) (printed now) → CarriesNoMore log now
       → HoldsFrom cells (printed now) (Primary p) (Primary q) → ((m : ℕ) → is_at (primary_of (printed log)) m ≡ false → SameJob log now m) → ((m : ℕ) → CommitsStay (printed log) (printed now) m)
       → MovesOne n (record { node = Primary q; held = held }) old new → IsNode size n → place_of old n ≡ Some (record { node = Primary p; held = held }) → GivesUpFiles cells p q → q.states ≡ p.states
       → Shows cells log size old → FilesShow cells log size old → FilesShow cells now size new
   files_given size log now old new n p q held lasting grows no_more holds same stay moves node there gives states shows files =
-      let x : Place D = record { node = Primary q; held = held } in
-      let y : Place D = record { node = Primary p; held = held } in
+      let x : NodePlace D = record { node = Primary q; held = held } in
+      let y : NodePlace D = record { node = Primary p; held = held } in
       let jobs : (s : Out) → jobs_like new s size ≡ jobs_like old s size = λ s. jobs_same old new s size (λ m low. wants_same n x y old new moves there refl m) in
       let fewer : (s : Out) → jobs_like new s size ≤ jobs_like old s size = λ s. (let is = jobs s in omega (arith, is)) in
       let mine = some_at (Both cells files.source log (λ s. jobs_like old s size) n) (place_of old n) y there (both_of cells log size old shows files n node) in
@@ -164,7 +164,7 @@ module _ {D : Type 0} (cells : D → Cells) where
 
   -- ---- in the terms of a call
 
-  module _ (r : Run) (ended : Bool) (b0 b1 b2 : Sheet) (old mid new : List (Option (Place D))) (at : At) (n : NodeNo) (x : Place D) (p q : PrimaryParts D) (held : Vec Held Global)
+  module _ (r : Run) (ended : Bool) (b0 b1 b2 : Sheet) (old mid new : List (Option (NodePlace D))) (at : At) (n : NodeNo) (x : NodePlace D) (p q : PrimaryParts D) (held : Vec HeldTicket Global)
       {left : Rest} (view : record { ended = ended; nodes = b0.nodes; log = b0.log; rest = left } ≡ r) (running : r.ended ≡ false)
       (e1 : b1.log ≡ b0.log) (n1 : b1.nodes ≡ b0.nodes) (e2 : b2.log ≡ shown at (Refused DiskFault) ∷ b1.log) (n2 : b2.nodes ≡ b1.nodes) (legal : IsLegalPast b1.nodes (printed b1.log)) (turns : AreInTurn (printed b1.log))
       (rule : KeepsRule r.nodes (printed r.log) at (Refused DiskFault)) (flies : Flying (printed r.log) at) (flight : publish_in_flight (printed r.log) ≡ Some at) (node : IsNode r.nodes n.0) (primary : primary_of (printed r.log) ≡ Some n)
@@ -186,10 +186,10 @@ module _ {D : Type 0} (cells : D → Cells) where
         (files_given r.nodes r.log (shown at (Refused DiskFault) ∷ r.log) old new n.0 p q held lasting (grows_shown r.nodes (printed r.log) at (Refused DiskFault) b.legal rule) (λ name bytes out. out)
         (gives_up_holds (printed (shown at (Refused DiskFault) ∷ r.log)) p q point none) (λ m other. same_shown r.nodes r.log at m b.legal b.turns other (Refused DiskFault) rule turn refl)
         (λ m. commits_shown (printed r.log) at m r.nodes (Refused DiskFault) b.legal b.turns rule turn refl (no_commit r.nodes (printed r.log) at b.legal b.turns (ap is_commit_line flies.entry) m))
-        (put_one cells n.0 (record { node = Primary q; held = held }) old mid new put) node (there ∙ ap (λ (z : Place D). Some z) is) (gives_up_files p q point counts stays drawn appears) (ap (λ (z : PrimaryParts D). z.states) point)
+        (put_one cells n.0 (record { node = Primary q; held = held }) old mid new put) node (there ∙ ap (λ (z : NodePlace D). Some z) is) (gives_up_files p q point counts stays drawn appears) (ap (λ (z : PrimaryParts D). z.states) point)
         (was cells r ended b0.nodes b0.log old view running shows) (files_was cells r ended b0.nodes b0.log old view running files))
 
     pub given_up_merges : (board : Board) → b1.cut ≡ b0.cut → b2.cut ≡ b1.cut → MergesStand b0.log b0.cut b0.nodes board old → MergesStand b2.log b2.cut b2.nodes board new
     given_up_merges board c1 c2 was =
-        put_shown cells board r ended b0 b1 old mid new n.0 (record { node = Primary q; held = held }) (record { node = Primary p; held = held }) view e1 n1 c1 node put (there ∙ ap (λ (z : Place D). Some z) is) refl
+        put_shown cells board r ended b0 b1 old mid new n.0 (record { node = Primary q; held = held }) (record { node = Primary p; held = held }) view e1 n1 c1 node put (there ∙ ap (λ (z : NodePlace D). Some z) is) refl
         (λ jobs count low. primary_keeps jobs count p q (ap (λ (z : PrimaryParts D). z.merges) point) (ap (λ (z : PrimaryParts D). z.has_cut_over) point) (ap (λ (z : PrimaryParts D). z.states) point) low) was b2 at (Refused DiskFault) e2 n2 c2 refl

@@ -13,7 +13,7 @@ use Rattle.history_rules.specs.declared.entry.Event.{Event}
 use Rattle.history_book.specs.Log.{Log, printed, shown}
 use Rattle.merge_tasks.specs.Merging.{Sheet}
 use Rattle.merge_tasks.specs.Board.{Board}
-use Rattle.cluster_nodes.specs.declared.nodes.Place.{Place}
+use Rattle.cluster_nodes.specs.declared.nodes.NodePlace.{NodePlace}
 use Rattle.cluster_state.specs.Run.{Rest, Run, IsNow}
 use Rattle.cluster_state.specs.Met.{failures_by_plan, met_in, with_met, ClusterStands}
 use Rattle.cluster_state.specs.GivesUp.{publish_reply, PublishEnds}
@@ -27,7 +27,7 @@ behind at olds news b = record b { log = with_met false at 1 olds news b.log }
 abbrev pub run_behind : At → List (ℕ × ℕ) → List (ℕ × ℕ) → Sheet → Run → Run
 run_behind at olds news b r = record { ended = r.ended; nodes = b.nodes; log = with_met false at 1 olds news b.log; rest = r.rest }
 
-module _ {D : Type 0} (cells : D → Cells) (r : Run) (ended : Bool) (b0 b1 : Sheet) (old : List (Option (Place D))) (board : Board) {left : Rest} (view : record { ended = ended; nodes = b0.nodes; log = b0.log; rest = left } ≡ r) (running : r.ended ≡ false)
+module _ {D : Type 0} (cells : D → Cells) (r : Run) (ended : Bool) (b0 b1 : Sheet) (old : List (Option (NodePlace D))) (board : Board) {left : Rest} (view : record { ended = ended; nodes = b0.nodes; log = b0.log; rest = left } ≡ r) (running : r.ended ≡ false)
     (all : ended ≡ false → ClusterStands cells b0.nodes old b0.cut board b0.log) where
   -- there are as many places as nodes
   pub counted : b1.nodes ≡ b0.nodes → length old ≡ b1.nodes
@@ -39,13 +39,13 @@ module _ {D : Type 0} (cells : D → Cells) (r : Run) (ended : Bool) (b0 b1 : Sh
       (subst (λ (z : ℕ × (Bool × Log)). ClusterStands cells z.0 old z.1.0 board z.1.1) (λ i. (sym n1 i, (sym c1 i, sym e1 i))) (all (ap (λ (x : Run). x.ended) view ∙ running)))
 
 -- what disks have met, by their plans
-pub met_plans : {D : Type 0} (planned : D → Plans) (places : List (Option (Place D))) → map (met_in planned) places ≡ map failures_by_plan (plans_in planned places)
+pub met_plans : {D : Type 0} (planned : D → Plans) (places : List (Option (NodePlace D))) → map (met_in planned) places ≡ map failures_by_plan (plans_in planned places)
 met_plans planned [] = refl
 met_plans planned (None ∷ places) = ap (λ (l : List (ℕ × ℕ)). (0, 0) ∷ l) (met_plans planned places)
 met_plans planned (Some place ∷ places) = ap (λ (l : List (ℕ × ℕ)). met_in planned (Some place) ∷ l) (met_plans planned places)
 
 -- a publish has ended
-pub ends_behind : {D : Type 0} (planned : D → Plans) (old new : List (Option (Place D))) (r : Run) {now : Rest} (ended : Bool) (b0 b1 b2 : Sheet) (at : At) (published : Bool) (olds news : List (ℕ × ℕ)) (reply : Event) → {left : Rest}
+pub ends_behind : {D : Type 0} (planned : D → Plans) (old new : List (Option (NodePlace D))) (r : Run) {now : Rest} (ended : Bool) (b0 b1 b2 : Sheet) (at : At) (published : Bool) (olds news : List (ℕ × ℕ)) (reply : Event) → {left : Rest}
     → record { ended = ended; nodes = b0.nodes; log = b0.log; rest = left } ≡ r → b1.log ≡ b0.log → b1.nodes ≡ b0.nodes → b2.log ≡ shown at reply ∷ with_met false at 1 olds news b1.log → b2.nodes ≡ b1.nodes → reply ≡ publish_reply published (printed b0.log)
     → olds ≡ map (met_in planned) old → left.plans ≡ plans_in planned old → news ≡ map (met_in planned) new → now.plans ≡ plans_in planned new
     → PublishEnds at r (record { ended = false; nodes = b2.nodes; log = b2.log; rest = now }) published

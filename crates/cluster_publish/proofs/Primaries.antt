@@ -12,13 +12,13 @@ use Rattle.history_rules.specs.Points.{operations_of_generation}
 use Rattle.history_rules.specs.Legal.{IsLegalPast}
 use Rattle.history_book.specs.Log.{Log, printed}
 use Rattle.history_book.specs.Turns.{AreInTurn}
-use Rattle.primary_state.specs.declared.parts.Parts.{Parts as PrimaryParts}
+use Rattle.primary_state.specs.declared.parts.PrimaryParts.{PrimaryParts}
 use Rattle.primary_state.specs.declared.parts.Publish.{Publish}
 use Rattle.primary_state.specs.Work.{IsWorkOf}
-use Rattle.cluster_nodes.specs.declared.held.Held.{Held}
+use Rattle.cluster_nodes.specs.declared.held.HeldTicket.{HeldTicket}
 use Rattle.cluster_nodes.specs.declared.nodes.Node.{Node}
 use Rattle.cluster_nodes.specs.declared.nodes.Node.TheVariants.{Primary, Replica, Down}
-use Rattle.cluster_nodes.specs.declared.nodes.Place.{Place}
+use Rattle.cluster_nodes.specs.declared.nodes.NodePlace.{NodePlace}
 use Rattle.cluster_state.specs.Lookups.{Handed}
 use Rattle.cluster_nodes.specs.Places.{HasPrimary}
 use Rattle.cluster_state.specs.State.{IsFlying, FlightShows, PrimaryShows, NodeShows, PlaceShows}
@@ -33,17 +33,17 @@ pub primary_there : (p : Option NodeNo) (n : NodeNo) → p ≡ Some n → is_at 
 primary_there p n is = ap (λ (o : Option NodeNo). is_at o n.0) is ∙ eq-eqb n.0 n.0 refl
 
 module _ {D : Type 0} (cells : D → Cells) where
-  node_is_primary : (log : Log) (n : ℕ) (x : Node D) (held : Vec Held Global) → is_at (primary_of (printed log)) n ≡ true → NodeShows cells log n x → HasPrimary (Some (record { node = x; held = held }))
+  node_is_primary : (log : Log) (n : ℕ) (x : Node D) (held : Vec HeldTicket Global) → is_at (primary_of (printed log)) n ≡ true → NodeShows cells log n x → HasPrimary (Some (record { node = x; held = held }))
   node_is_primary log n (Primary p) held here shows = tt
   node_is_primary log n (Replica r) held here shows = true≢false (sym here ∙ shows.other)
   node_is_primary log n (Down d) held here shows = true≢false (sym here ∙ shows.other)
 
   -- in the primary's place the primary stands
-  pub has_primary : (log : Log) (n : ℕ) (x : Place D) → is_at (primary_of (printed log)) n ≡ true → PlaceShows cells log n x → HasPrimary (Some x)
+  pub has_primary : (log : Log) (n : ℕ) (x : NodePlace D) → is_at (primary_of (printed log)) n ≡ true → PlaceShows cells log n x → HasPrimary (Some x)
   has_primary log n x here shows = node_is_primary log n x.node x.held here shows.node_shows
 
   -- what the primary shows, taken out of its place
-  pub primary_shows : (log : Log) (n : ℕ) (x : Place D) (p : PrimaryParts D) (held : List Held) → x.node ≡ Primary p → PlaceShows cells log n x → PrimaryShows cells log n p
+  pub primary_shows : (log : Log) (n : ℕ) (x : NodePlace D) (p : PrimaryParts D) (held : List HeldTicket) → x.node ≡ Primary p → PlaceShows cells log n x → PrimaryShows cells log n p
   primary_shows log n x p held is shows = subst (λ (y : Node D). NodeShows cells log n y) is shows.node_shows
 
   -- the next operation has a number

@@ -24,7 +24,7 @@ use Rattle.merge_tasks.specs.Merging.{Sheet}
 use Rattle.history_book.specs.declared.inner.Inner.TheVariants.{FlushOut}
 use Rattle.history_book.specs.Laws.{IsFresh}
 use Rattle.history_book.specs.Turns.{AreInTurn}
-use Rattle.primary_state.specs.declared.parts.Parts.{Parts as PrimaryParts}
+use Rattle.primary_state.specs.declared.parts.PrimaryParts.{PrimaryParts}
 use Rattle.searcher_switch.specs.Appearing.{AppearsOnly}
 use Rattle.searcher_switch.specs.declared.open.Open.{Open}
 use Rattle.primary_state.specs.Primary.{IsPrimary, KeepsHeldBytes, primary_names, rest_names, loose_of, loose_in, rest_loose, publish_loose}
@@ -42,9 +42,9 @@ use Rattle.primary_state.specs.declared.parts.Publish.{Publish}
 use Rattle.primary_state.specs.Held.{IsOwnFile, drawn_to}
 use Rattle.primary_state.specs.Cut.{infos_drawn, noted, has_put, number_drawn}
 use Rattle.primary_state.proofs.NewFiles.{named_of}
-use Rattle.cluster_nodes.specs.declared.held.Held.{Held}
+use Rattle.cluster_nodes.specs.declared.held.HeldTicket.{HeldTicket}
 use Rattle.cluster_nodes.specs.declared.nodes.Node.TheVariants.{Primary}
-use Rattle.cluster_nodes.specs.declared.nodes.Place.{Place}
+use Rattle.cluster_nodes.specs.declared.nodes.NodePlace.{NodePlace}
 use Rattle.cluster_nodes.specs.Places.{place_of}
 use Rattle.cluster_state.specs.Run.{Rest, Run}
 use Rattle.cluster_state.specs.State.{Shows, PrimaryShows, PlaceShows}
@@ -193,14 +193,14 @@ module _ {D : Type 0} (cells : D → Cells) where
 
   -- ---- paths
 
-  module _ (r : Run) (ended : Bool) (b0 b1 : Sheet) (old mid new : List (Option (Place D))) (n : NodeNo) (x : Place D) (p q : PrimaryParts D) (held : Vec Held Global)
+  module _ (r : Run) (ended : Bool) (b0 b1 : Sheet) (old mid new : List (Option (NodePlace D))) (n : NodeNo) (x : NodePlace D) (p q : PrimaryParts D) (held : Vec HeldTicket Global)
       {left : Rest} (view : record { ended = ended; nodes = b0.nodes; log = b0.log; rest = left } ≡ r) (running : r.ended ≡ false) (shows : ended ≡ false → Shows cells b0.log b0.nodes old) (files : ended ≡ false → FilesShow cells b0.log b0.nodes old)
       (e1 : b1.log ≡ b0.log) (n1 : b1.nodes ≡ b0.nodes) (node : IsNode r.nodes n.0) (put : PutsBack cells old mid new n.0 (record { node = Primary q; held = held })) (there : place_of old n.0 ≡ Some x) (is : x ≡ record { node = Primary p; held = held }) where
     keeps_at : KeepsNodeFiles cells (Primary p) (Primary q) → KeepsNodeFiles cells x.node (Primary q)
-    keeps_at keeps = subst (λ (z : Place D). KeepsNodeFiles cells z.node (Primary q)) (sym is) keeps
+    keeps_at keeps = subst (λ (z : NodePlace D). KeepsNodeFiles cells z.node (Primary q)) (sym is) keeps
 
     holds_at : (now : Past) → HoldsFrom cells now (Primary p) (Primary q) → HoldsFrom cells now x.node (Primary q)
-    holds_at now holds = subst (λ (z : Place D). HoldsFrom cells now z.node (Primary q)) (sym is) holds
+    holds_at now holds = subst (λ (z : NodePlace D). HoldsFrom cells now z.node (Primary q)) (sym is) holds
 
     -- a place that was taken out and put back as it was
     pub back_files : q ≡ p → FilesShow cells b1.log b1.nodes new
@@ -214,7 +214,7 @@ module _ {D : Type 0} (cells : D → Cells) where
 
     -- what the primary was
     here : PrimaryShows cells r.log n.0 p
-    here = (subst (λ (z : Place D). PlaceShows cells r.log n.0 z) is (place_at cells r ended b0.nodes n.0 b0.log old x view running shows node there)).node_shows
+    here = (subst (λ (z : NodePlace D). PlaceShows cells r.log n.0 z) is (place_at cells r ended b0.nodes n.0 b0.log old x view running shows node there)).node_shows
 
     module _ (b2 : Sheet) (at : At) (legal : IsLegalPast b1.nodes (printed b1.log)) (turns : AreInTurn (printed b1.log)) where
       pub accept_files : (seq : ℕ) (op copy : Op) → b2.log ≡ shown at (Accepted seq op) ∷ b1.log → b2.nodes ≡ b1.nodes → IsFresh at (printed b0.log) → KeepsRule r.nodes (printed r.log) at (Accepted seq op)
@@ -241,6 +241,6 @@ module _ {D : Type 0} (cells : D → Cells) where
       end_files g v work e2 n2 rule flight primary flushed published of_cut stays fresh drawn appears others whole lasting =
           let b = before cells r ended b0 b1 view e1 n1 legal turns in
           files_published cells r ended b0 b1 b2 old mid new at g v n p q held view running shows files e1 n1 e2 n2 legal turns rule (later_turn (printed r.log) at (Published g v) refl flight) primary put node
-          (there ∙ ap (λ (z : Place D). Some z) is) (published_fills p q work published stays fresh drawn appears others here.whole whole)
+          (there ∙ ap (λ (z : NodePlace D). Some z) is) (published_fills p q work published stays fresh drawn appears others here.whole whole)
           (published_primary cells r.nodes r.log at g v n.0 p q work b.legal b.turns rule flight rule.next flushed published of_cut (ap (λ (z : PrimaryParts D). z.accepted) others) (ap (λ (z : PrimaryParts D). z.merges) others) whole here) lasting
           (ended_holds (printed (shown at (Published g v) ∷ r.log)) p q work published others)

@@ -23,7 +23,7 @@ use Rattle.merge_tasks.specs.Merging.{Sheet}
 use Rattle.history_book.specs.declared.inner.Inner.TheVariants.{FlushOut}
 use Rattle.history_book.specs.Laws.{IsFresh, Flying}
 use Rattle.history_book.specs.Turns.{AreInTurn}
-use Rattle.primary_state.specs.declared.parts.Parts.{Parts as PrimaryParts}
+use Rattle.primary_state.specs.declared.parts.PrimaryParts.{PrimaryParts}
 use Rattle.primary_state.specs.Primary.{IsPrimary}
 use Rattle.primary_state.specs.Calls.{IsTaskOf, after_start, IsPublished}
 use Rattle.primary_state.specs.Work.{IsWorkOf, AreOfCut}
@@ -31,9 +31,9 @@ use Rattle.primary_state.specs.Cut.{infos_drawn, noted, has_put, IsIdle, AreSpen
 use Rattle.primary_state.proofs.Callers.{task_seg, task_sound}
 use Rattle.segment_steps.specs.declared.flushing.FlushTask.{FlushTask}
 use Rattle.segment_steps.specs.declared.flushing.FlushWork.{FlushWork}
-use Rattle.cluster_nodes.specs.declared.held.Held.{Held}
+use Rattle.cluster_nodes.specs.declared.held.HeldTicket.{HeldTicket}
 use Rattle.cluster_nodes.specs.declared.nodes.Node.TheVariants.{Primary}
-use Rattle.cluster_nodes.specs.declared.nodes.Place.{Place}
+use Rattle.cluster_nodes.specs.declared.nodes.NodePlace.{NodePlace}
 use Rattle.cluster_state.specs.Lookups.{Handed, or_older, flush_out}
 use Rattle.merge_tasks.specs.Board.{Board}
 use Rattle.cluster_nodes.specs.Outs.{jobs_like}
@@ -116,13 +116,13 @@ ends_now r ended b0 b1 b2 at g v view e1 n1 e2 n2 present next =
 module _ {D : Type 0} (cells : D → Cells) where
   -- ---- the primary, taken out of its place
 
-  module _ (r : Run) (ended : Bool) (b : Sheet) (places : List (Option (Place D))) (n : NodeNo) (x : Place D)
+  module _ (r : Run) (ended : Bool) (b : Sheet) (places : List (Option (NodePlace D))) (n : NodeNo) (x : NodePlace D)
       {left : Rest} (view : record { ended = ended; nodes = b.nodes; log = b.log; rest = left } ≡ r) (running : r.ended ≡ false) (shows : ended ≡ false → Shows cells b.log b.nodes places)
       (node : IsNode r.nodes n.0) (there : place_of places n.0 ≡ Some x) where
     pub primary_stands : primary_of (printed r.log) ≡ Some n → HasPrimary (Some x)
     primary_stands primary = has_primary cells r.log n.0 x (primary_there (primary_of (printed r.log)) n primary) (place_at cells r ended b.nodes n.0 b.log places x view running shows node there)
 
-    module _ (p : PrimaryParts D) (held : Vec Held Global) (is : x ≡ record { node = Primary p; held = held }) where
+    module _ (p : PrimaryParts D) (held : Vec HeldTicket Global) (is : x ≡ record { node = Primary p; held = held }) where
       primary_at : PrimaryShows cells r.log n.0 p
       primary_at = (subst (PlaceShows cells r.log n.0) is (place_at cells r ended b.nodes n.0 b.log places x view running shows node there)).node_shows
 
@@ -192,7 +192,7 @@ module _ {D : Type 0} (cells : D → Cells) where
           none = (was cells r ended b.nodes b.log places view running shows).handed at (past_has (IsFresh at) r ended b view fresh).begun
 
   -- a place that was taken out and put back as it was
-  pub back_path : (r : Run) (ended : Bool) (b0 b1 : Sheet) (old mid new : List (Option (Place D))) (n : ℕ) (x : Place D) (p q : PrimaryParts D) (held : Vec Held Global)
+  pub back_path : (r : Run) (ended : Bool) (b0 b1 : Sheet) (old mid new : List (Option (NodePlace D))) (n : ℕ) (x : NodePlace D) (p q : PrimaryParts D) (held : Vec HeldTicket Global)
       → {left : Rest} → record { ended = ended; nodes = b0.nodes; log = b0.log; rest = left } ≡ r → r.ended ≡ false → (ended ≡ false → Shows cells b0.log b0.nodes old)
       → b1.log ≡ b0.log → b1.nodes ≡ b0.nodes → PutsBack cells old mid new n (record { node = Primary q; held = held }) → place_of old n ≡ Some x → x ≡ record { node = Primary p; held = held } → q ≡ p
       → Shows cells b1.log b1.nodes new
@@ -201,12 +201,12 @@ module _ {D : Type 0} (cells : D → Cells) where
       now_is cells r.log b1.log r.nodes b1.nodes new (e1 ∙ log_is r ended b0 view) (n1 ∙ nodes_is r ended b0 view) (record {
         some = s.some;
         count = put.again ∙ (put.count ∙ s.count);
-        each = λ m node. subst (λ (o : Option (Place D)). IsSomeAnd o (PlaceShows cells r.log m)) (sym (place_same m)) (s.each m node);
+        each = λ m node. subst (λ (o : Option (NodePlace D)). IsSomeAnd o (PlaceShows cells r.log m)) (sym (place_same m)) (s.each m node);
         handed = s.handed;
       })
     where
-      back : ◌≡◌ {A = Option (Place D)} (Some (record { node = Primary q; held = held })) (place_of old n)
-      back = ap (λ (z : PrimaryParts D). Some (record { node = Primary z; held = held })) same ∙ (ap (λ (z : Place D). Some z) (sym is) ∙ sym there)
+      back : ◌≡◌ {A = Option (NodePlace D)} (Some (record { node = Primary q; held = held })) (place_of old n)
+      back = ap (λ (z : PrimaryParts D). Some (record { node = Primary z; held = held })) same ∙ (ap (λ (z : NodePlace D). Some z) (sym is) ∙ sym there)
 
       place_same : (m : ℕ) → place_of new m ≡ place_of old m
       place_same m =
@@ -221,7 +221,7 @@ module _ {D : Type 0} (cells : D → Cells) where
 
   -- ---- what each path leaves
 
-  pub accept_path : (r : Run) (ended : Bool) (b0 b1 b2 : Sheet) (old mid new : List (Option (Place D))) (at : At) (n : NodeNo) (seq : ℕ) (op copy : Op) (x : Place D) (p q : PrimaryParts D) (held : Vec Held Global)
+  pub accept_path : (r : Run) (ended : Bool) (b0 b1 b2 : Sheet) (old mid new : List (Option (NodePlace D))) (at : At) (n : NodeNo) (seq : ℕ) (op copy : Op) (x : NodePlace D) (p q : PrimaryParts D) (held : Vec HeldTicket Global)
       → {left : Rest} → record { ended = ended; nodes = b0.nodes; log = b0.log; rest = left } ≡ r → r.ended ≡ false → (ended ≡ false → Shows cells b0.log b0.nodes old)
       → b1.log ≡ b0.log → b1.nodes ≡ b0.nodes → b2.log ≡ shown at (Accepted seq op) ∷ b1.log → b2.nodes ≡ b1.nodes → IsLegalPast b1.nodes (printed b1.log) → AreInTurn (printed b1.log)
       → IsFresh at (printed b0.log) → KeepsRule r.nodes (printed r.log) at (Accepted seq op) → IsNode r.nodes n.0 → primary_of (printed r.log) ≡ Some n
@@ -234,7 +234,7 @@ module _ {D : Type 0} (cells : D → Cells) where
       (λ all order was. accepted_place cells r.nodes r.log at seq op n.0 p q held all order keeps line
       (subst (λ (o : Op). q ≡ record p { waiting = p.waiting ++ o ∷ []; accepted = p.accepted + 1 }) same next) whole (subst (PlaceShows cells r.log n.0) is was))
 
-  pub start_path : (r : Run) (ended : Bool) (b0 b1 b2 b3 : Sheet) (old mid new : List (Option (Place D))) (at : At) (n : NodeNo) (seg : Option SegNo) (segs : List Shown) (x : Place D) (p q : PrimaryParts D) (held : Vec Held Global)
+  pub start_path : (r : Run) (ended : Bool) (b0 b1 b2 b3 : Sheet) (old mid new : List (Option (NodePlace D))) (at : At) (n : NodeNo) (seg : Option SegNo) (segs : List Shown) (x : NodePlace D) (p q : PrimaryParts D) (held : Vec HeldTicket Global)
       → {left : Rest} → record { ended = ended; nodes = b0.nodes; log = b0.log; rest = left } ≡ r → r.ended ≡ false → (ended ≡ false → Shows cells b0.log b0.nodes old)
       → b1.log ≡ b0.log → b1.nodes ≡ b0.nodes → b2.log ≡ shown at Publishing ∷ b1.log → b2.nodes ≡ b1.nodes → IsLegalPast b1.nodes (printed b1.log) → AreInTurn (printed b1.log)
       → b3.log ≡ kept (FlushOut at seg segs) ∷ b2.log → b3.nodes ≡ b2.nodes
@@ -246,7 +246,7 @@ module _ {D : Type 0} (cells : D → Cells) where
       (past_has (IsFresh at) r ended b0 view fresh).begun (λ m apart. others_apart (primary_of (printed r.log)) n m primary apart) put node there
       (λ all order out was. started_place cells r.nodes r.log at seg segs n.0 p q held all keeps out same next whole (subst (PlaceShows cells r.log n.0) is was))
 
-  pub end_path : (r : Run) (ended : Bool) (b0 b1 b2 : Sheet) (old mid new : List (Option (Place D))) (at : At) (n : NodeNo) (g : Gen) (v : Version) (x : Place D) (p q : PrimaryParts D) (work : FlushWork) (held : Vec Held Global)
+  pub end_path : (r : Run) (ended : Bool) (b0 b1 b2 : Sheet) (old mid new : List (Option (NodePlace D))) (at : At) (n : NodeNo) (g : Gen) (v : Version) (x : NodePlace D) (p q : PrimaryParts D) (work : FlushWork) (held : Vec HeldTicket Global)
       → {left : Rest} → record { ended = ended; nodes = b0.nodes; log = b0.log; rest = left } ≡ r → r.ended ≡ false → (ended ≡ false → Shows cells b0.log b0.nodes old)
       → b1.log ≡ b0.log → b1.nodes ≡ b0.nodes → b2.log ≡ shown at (Published g v) ∷ b1.log → b2.nodes ≡ b1.nodes → IsLegalPast b1.nodes (printed b1.log) → AreInTurn (printed b1.log)
       → KeepsRule r.nodes (printed r.log) at (Published g v) → publish_in_flight (printed r.log) ≡ Some at → IsNode r.nodes n.0 → primary_of (printed r.log) ≡ Some n

@@ -16,7 +16,7 @@ use Rattle.seg_reader.specs.Shown.{Shown}
 use Rattle.seg_reader.specs.Stands.{AreSegmentsOf}
 use Rattle.segment_infos.specs.declared.infos.Infos.{Infos}
 use Rattle.segment_infos.specs.declared.infos.SegRecord.{SegRecord}
-use Rattle.searcher_switch.specs.declared.open.Point.{Point}
+use Rattle.searcher_switch.specs.declared.open.SearchPoint.{SearchPoint}
 use Rattle.history_rules.specs.declared.entry.Event.TheVariants.{Accepted, Publishing, Published}
 use Rattle.history_rules.specs.Nodes.{Past, generation_of, newest_version, version_of}
 use Rattle.history_rules.specs.Lines.{same_at, start_entry, before_start, without_at, publish_in_flight}
@@ -28,7 +28,7 @@ use Rattle.history_book.specs.Log.{Log, printed, shown, kept}
 use Rattle.history_book.specs.declared.inner.Inner.TheVariants.{FlushOut}
 use Rattle.history_book.specs.Turns.{AreInTurn}
 use Rattle.history_book.proofs.ReignLaws.{written}
-use Rattle.primary_state.specs.declared.parts.Parts.{Parts as PrimaryParts}
+use Rattle.primary_state.specs.declared.parts.PrimaryParts.{PrimaryParts}
 use Rattle.primary_state.specs.declared.parts.Publish.{Publish}
 use Rattle.primary_state.specs.Primary.{IsPrimary}
 use Rattle.segment_steps.specs.declared.flushing.FlushWork.{FlushWork}
@@ -62,7 +62,7 @@ module _ {D : Type 0} (cells : D → Cells) where
         running = was.running;
         primary = was.primary;
         whole = whole;
-        point = subst (λ (o : Point Shown). IsPointAt (printed (shown at (Accepted seq op) ∷ log)) (version_of n (printed log)) o) (sym (ap (λ (z : PrimaryParts D). z.searchers.point) is))
+        point = subst (λ (o : SearchPoint Shown). IsPointAt (printed (shown at (Accepted seq op) ∷ log)) (version_of n (printed log)) o) (sym (ap (λ (z : PrimaryParts D). z.searchers.point) is))
             (record { version = was.point.version; stands = point });
         writer = subst (λ (x : Infos × List Shown). WritesAt (printed (shown at (Accepted seq op) ∷ log)) x.0 x.1) (λ i. (sym (ap (λ (z : PrimaryParts D). z.infos) is) i, sym (ap (λ (z : PrimaryParts D). z.segs) is) i))
             (record { documents = newest.documents; generation = was.writer.generation; version = was.writer.version; counter = was.writer.counter; few = was.writer.few; live = was.writer.live });
@@ -98,7 +98,7 @@ module _ {D : Type 0} (cells : D → Cells) where
         running = was.running;
         primary = was.primary;
         whole = whole;
-        point = subst (λ (o : Point Shown). IsPointAt (printed (shown at Publishing ∷ log)) (version_of n (printed log)) o) (sym (ap (λ (z : PrimaryParts D). z.searchers.point) is))
+        point = subst (λ (o : SearchPoint Shown). IsPointAt (printed (shown at Publishing ∷ log)) (version_of n (printed log)) o) (sym (ap (λ (z : PrimaryParts D). z.searchers.point) is))
             (record { version = was.point.version; stands = point });
         writer = subst (λ (x : Infos × List Shown). WritesAt (printed (shown at Publishing ∷ log)) x.0 x.1) (λ i. (sym (ap (λ (z : PrimaryParts D). z.infos) is) i, sym (ap (λ (z : PrimaryParts D). z.segs) is) i)) writer;
         waiting = ap (λ (z : PrimaryParts D). z.waiting) is ∙ was.waiting;

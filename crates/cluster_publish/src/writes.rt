@@ -15,7 +15,7 @@ ghost use Rattle.cluster_state.specs.Writes.{StartsPublish, IsFlushed};
 ghost use Rattle.cluster_state.specs.GivesUp.{PublishEnds};
 
 use cluster_nodes::{
-    FlushTask, FlushWork, Node, Place, PublishFault, files_last, primary_in, put, take,
+    FlushTask, FlushWork, Node, NodePlace, PublishFault, files_last, primary_in, put, take,
 };
 use cluster_state::{ClusterState, are_planned, has_risen, kinds_in, show_met};
 use disk_model::FaultDir;
@@ -50,8 +50,8 @@ fn is_for_segments(fault: PublishFault) -> Result<(), NoMemory>
     }
 }
 
-/// The primary accepts an operation, whose number is one above that of the last that was accepted. `Err` is want of memory,
-/// or of a number below 2^32: the cluster has ended, and the history is as before.
+/// The primary accepts an operation, whose number is one above that of the last that was accepted. It fails when out of memory,
+/// or out of numbers below 2^32: the cluster has ended, and the history is as before.
 pub fn accept_at<D: FaultDir + Drop>(
     alloc: Global,
     cluster: &mut ClusterState<D>,
@@ -80,7 +80,7 @@ pub fn accept_at<D: FaultDir + Drop>(
     let (mut primary, held) = primary_in(take(&mut cluster.places, p));
     let place = primary.accept(copy);
     let node = Node::Primary(primary);
-    put(&mut cluster.places, p, Place { node, held });
+    put(&mut cluster.places, p, NodePlace { node, held });
     place?;
     cluster.ledger.show(at, Event::Accepted { seq, op });
     cluster.ended = false;
@@ -88,8 +88,8 @@ pub fn accept_at<D: FaultDir + Drop>(
 }
 
 /// Starts a publish, which has an operation or a cut-over to publish, and hands it out: `flush` makes the work, and `end_publish` takes it back.
-/// None is answered where there is a put and there are as many segments as there may be, and then all is as before. `Err`
-/// is want of memory: the cluster has ended, and the history is as before.
+/// None is answered where there is a put and there are as many segments as there may be, and then all is as before. It
+/// fails when out of memory: the cluster has ended, and the history is as before.
 pub fn start_publish<D: FaultDir + Drop>(
     alloc: Global,
     cluster: &mut ClusterState<D>,
@@ -115,7 +115,7 @@ pub fn start_publish<D: FaultDir + Drop>(
     let (mut primary, held) = primary_in(take(&mut cluster.places, p));
     let started = primary.publish_start(alloc);
     let node = Node::Primary(primary);
-    put(&mut cluster.places, p, Place { node, held });
+    put(&mut cluster.places, p, NodePlace { node, held });
     let task = match started {
         Ok(Some(task)) => task,
         Ok(None) => unreachable!(),
@@ -157,7 +157,7 @@ fn note_published<D: FaultDir + Drop>(
     generation: Gen,
     v: Version,
     before: &[(u64, u64)],
-    places: &Vec<Option<Place<D>>>,
+    places: &Vec<Option<NodePlace<D>>>,
 )
     requires room { 2 * length before.now + 1 ≤ ledger.old.room }
     requires count { length before.now ≡ ledger.old.nodes }
@@ -190,7 +190,7 @@ fn note_given_up<D: FaultDir + Drop>(
     at: At,
     p: NodeNo,
     before: &[(u64, u64)],
-    places: &Vec<Option<Place<D>>>,
+    places: &Vec<Option<NodePlace<D>>>,
 )
     requires room { 2 * length before.now + 1 ≤ ledger.old.room }
     requires count { length before.now ≡ ledger.old.nodes }
@@ -225,7 +225,7 @@ fn note_given_up<D: FaultDir + Drop>(
 
 /// Ends the publish in flight with the work that was made for it: the primary writes its files, and searches the next
 /// version, which is answered by true. Where its disk failed, by a plan that the history shows, the publish is given up, and
-/// false is answered. `Err` is want of memory or of a version below 2^63: the cluster has ended, and the history is as before.
+/// false is answered. It fails when out of memory, or out of versions below 2^63: the cluster has ended, and the history is as before.
 pub fn end_publish<D: FaultDir + Drop>(
     alloc: Global,
     cluster: &mut ClusterState<D>,
@@ -261,7 +261,7 @@ pub fn end_publish<D: FaultDir + Drop>(
     let (mut primary, held) = primary_in(take(&mut cluster.places, p));
     let ended = primary.publish_end(alloc, work);
     let node = Node::Primary(primary);
-    put(&mut cluster.places, p, Place { node, held });
+    put(&mut cluster.places, p, NodePlace { node, held });
     if !are_planned(cluster.ledger.book(), before.as_slice(), &cluster.places) {
         return Err(AllocError);
     }

@@ -12,7 +12,7 @@ use Rattle.commit_steps.specs.declared.stage.CommitBook.{CommitBook}
 use Rattle.commit_steps.specs.Book.{HasBegun, IsBegun, book_by, is_last_step}
 use Rattle.cluster_nodes.specs.declared.nodes.Node.{Node}
 use Rattle.cluster_nodes.specs.declared.nodes.Node.TheVariants.{Primary, Replica}
-use Rattle.cluster_nodes.specs.declared.nodes.Place.{Place}
+use Rattle.cluster_nodes.specs.declared.nodes.NodePlace.{NodePlace}
 use Rattle.cluster_nodes.specs.Places.{place_of, unwrapped, disk_of}
 use Rattle.cluster_nodes.specs.JobPlaces.{MovesOne}
 use Rattle.cluster_nodes.specs.Commits.{StepsBook, AltersCommits, CommitsIn, HasStageAt}
@@ -70,25 +70,25 @@ module _ {D : Type 0} (cells : D → Cells) where
 
   -- ---- what callers see of it
 
-  told : (o : Option (Option (Place D))) → unwrap_or (option_map place_calls o) 0 ≡ place_calls (unwrapped o)
+  told : (o : Option (Option (NodePlace D))) → unwrap_or (option_map place_calls o) 0 ≡ place_calls (unwrapped o)
   told None = refl
   told (Some place) = refl
 
-  calls_are : (n : ℕ) (r : Run) (places : List (Option (Place D))) → r.rest.calls_left ≡ calls_in places → calls_at n r ≡ place_calls (place_of places n)
+  calls_are : (n : ℕ) (r : Run) (places : List (Option (NodePlace D))) → r.rest.calls_left ≡ calls_in places → calls_at n r ≡ place_calls (place_of places n)
   calls_are zero r places is = refl
   calls_are (suc k) r places is =
       ap (λ (l : List ℕ). unwrap_or (slice_get l k) 0) is ∙ (ap (λ (o : Option ℕ). unwrap_or o 0) (slice_get-map place_calls places k) ∙ told (slice_get places k))
 
-  there_now : (n : ℕ) (x : Place D) (old new : List (Option (Place D))) → MovesOne n x old new → place_of new n ≡ Some x
+  there_now : (n : ℕ) (x : NodePlace D) (old new : List (Option (NodePlace D))) → MovesOne n x old new → place_of new n ≡ Some x
   there_now n x old new moves = moves.there n ∙ ap (λ (b : Bool). if b then Some x else place_of old n) (eq-eqb n n refl)
 
-  module _ (n : ℕ) (r : Run) (old new : List (Option (Place D))) where
+  module _ (n : ℕ) (r : Run) (old new : List (Option (NodePlace D))) where
     pub begun_calls : r.rest.calls_left ≡ calls_in new → CommitsIn HasBegun cells n old new → calls_at n r ≡ 6
     begun_calls is b =
         calls_are n r new is
         ∙ (ap place_calls (there_now n (record { node = b.node; held = b.place.held }) old new b.moves) ∙ node_begins b.place.node b.node b.alters)
 
-  module _ (n : ℕ) (r : Run) (old new : List (Option (Place D))) (done : Bool) (was : r.rest.calls_left ≡ calls_in old) (b : CommitsIn (StepsBook done) cells n old new) where
+  module _ (n : ℕ) (r : Run) (old new : List (Option (NodePlace D))) (done : Bool) (was : r.rest.calls_left ≡ calls_in old) (b : CommitsIn (StepsBook done) cells n old new) where
     before : calls_at n r ≡ book_calls (disk_of b.place.node).book
     before = calls_are n r old was ∙ ap place_calls b.there
 

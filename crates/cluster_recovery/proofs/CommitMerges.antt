@@ -4,19 +4,19 @@ use Rattle.nrt_base.specs.declared.numbers.At.{At}
 use Rattle.disk_model.specs.Disk.{Cells}
 use Rattle.segment_infos.specs.declared.infos.Infos.{Infos}
 use Rattle.commit_steps.specs.declared.stage.CommitBook.{CommitBook}
-use Rattle.primary_state.specs.declared.parts.Parts.{Parts as PrimaryParts}
+use Rattle.primary_state.specs.declared.parts.PrimaryParts.{PrimaryParts}
 use Rattle.primary_state.specs.declared.states.Out.{Out}
-use Rattle.replica_state.specs.declared.parts.Parts.{Parts as ReplicaParts}
+use Rattle.replica_state.specs.declared.parts.ReplicaParts.{ReplicaParts}
 use Rattle.history_rules.specs.declared.entry.Event.{Event}
 use Rattle.history_rules.specs.Nodes.{IsNode, primary_of}
 use Rattle.history_book.specs.Log.{printed, shown}
 use Rattle.merge_tasks.specs.Merging.{Sheet}
 use Rattle.merge_tasks.specs.Board.{Board}
 use Rattle.merge_tasks.specs.TaskLog.{leaves_merges}
-use Rattle.cluster_nodes.specs.declared.held.Held.{Held}
+use Rattle.cluster_nodes.specs.declared.held.HeldTicket.{HeldTicket}
 use Rattle.cluster_nodes.specs.declared.nodes.Node.{Node}
 use Rattle.cluster_nodes.specs.declared.nodes.Node.TheVariants.{Primary, Replica, Down}
-use Rattle.cluster_nodes.specs.declared.nodes.Place.{Place}
+use Rattle.cluster_nodes.specs.declared.nodes.NodePlace.{NodePlace}
 use Rattle.cluster_nodes.specs.Outs.{want_of, want_at}
 use Rattle.cluster_nodes.specs.Commits.{AltersCommits, CommitsIn}
 use Rattle.cluster_state.specs.Run.{Run, Rest}
@@ -26,7 +26,7 @@ use Rattle.cluster_state.proofs.MergingStill.{primary_keeps, replica_keeps, one_
 
 module _ {D : Type 0} (cells : D → Cells) (Step : Infos → CommitBook → CommitBook → Type 0) where
   -- a node's job is as it was
-  commit_want : (x y : Node D) (held : Vec Held Global) → AltersCommits Step cells x y → want_at (Some (record { node = y; held = held })) ≡ want_at (Some (record { node = x; held = held }))
+  commit_want : (x y : Node D) (held : Vec HeldTicket Global) → AltersCommits Step cells x y → want_at (Some (record { node = y; held = held })) ≡ want_at (Some (record { node = x; held = held }))
   commit_want (Primary p) (Primary q) held alters = refl
   commit_want (Replica r) (Replica s) held alters = ap (λ (z : ReplicaParts D). want_of z.job) alters.0.others
   commit_want (Primary p) (Replica s) held alters = absurd alters
@@ -46,7 +46,7 @@ module _ {D : Type 0} (cells : D → Cells) (Step : Infos → CommitBook → Com
   commit_leaves (Replica r) (Down e) alters jobs count low = absurd alters
   commit_leaves (Down d) y alters jobs count low = absurd alters
 
-  module _ (r : Run) (ended : Bool) (b0 b1 : Sheet) (board : Board) (old new : List (Option (Place D))) (n : ℕ) {rest : Rest} (view : record { ended = ended; nodes = b0.nodes; log = b0.log; rest = rest } ≡ r)
+  module _ (r : Run) (ended : Bool) (b0 b1 : Sheet) (board : Board) (old new : List (Option (NodePlace D))) (n : ℕ) {rest : Rest} (view : record { ended = ended; nodes = b0.nodes; log = b0.log; rest = rest } ≡ r)
       (e1 : b1.log ≡ b0.log) (n1 : b1.nodes ≡ b0.nodes) (c1 : b1.cut ≡ b0.cut) (node : IsNode r.nodes n) (commits : CommitsIn Step cells n old new) (was : MergesStand b0.log b0.cut b0.nodes board old) where
     all_leave : KeepAllMerges b0.nodes old new
     all_leave = one_keeps b0.nodes board b0.log b0.cut old new n (record { node = commits.node; held = commits.place.held }) commits.place commits.moves (asked_size (λ (k : ℕ). IsNode k n) view refl node) commits.there

@@ -17,15 +17,15 @@ use Rattle.commit_steps.specs.declared.stage.CommitBook.{CommitBook}
 use Rattle.commit_steps.specs.Book.{commit_of, book_by, is_last_step, IsBegun, HasBegun}
 use Rattle.searcher_switch.specs.Appearing.{IsNameInFlight}
 use Rattle.searcher_switch.specs.declared.open.Open.{Open}
-use Rattle.searcher_switch.specs.declared.open.Point.{Point}
-use Rattle.primary_state.specs.declared.parts.Parts.{Parts as PrimaryParts}
+use Rattle.searcher_switch.specs.declared.open.SearchPoint.{SearchPoint}
+use Rattle.primary_state.specs.declared.parts.PrimaryParts.{PrimaryParts}
 use Rattle.primary_state.specs.declared.parts.Publish.{Publish}
 use Rattle.primary_state.specs.declared.states.Out.{Out}
 use Rattle.primary_state.specs.Held.{IsUndrawn}
 use Rattle.primary_state.specs.Primary.{loose_of, filled_of}
 use Rattle.replica_opening.specs.Known.{IsLasting}
 use Rattle.replica_state.specs.declared.job.PointJob.{PointJob}
-use Rattle.replica_state.specs.declared.parts.Parts.{Parts as ReplicaParts}
+use Rattle.replica_state.specs.declared.parts.ReplicaParts.{ReplicaParts}
 use Rattle.history_rules.specs.declared.entry.Event.{Event}
 use Rattle.history_rules.specs.declared.entry.Event.TheVariants.{Publishing, Committing, Committed}
 use Rattle.history_rules.specs.Nodes.{Past, IsNode, is_at, primary_of, is_running, version_of}
@@ -40,10 +40,10 @@ use Rattle.merge_tasks.specs.Merging.{Sheet}
 use Rattle.history_book.specs.Jobs.{job_at}
 use Rattle.history_book.specs.Turns.{InTurn, AreInTurn}
 use Rattle.history_book.proofs.FoundLaws.{commit_found}
-use Rattle.cluster_nodes.specs.declared.held.Held.{Held}
+use Rattle.cluster_nodes.specs.declared.held.HeldTicket.{HeldTicket}
 use Rattle.cluster_nodes.specs.declared.nodes.Node.{Node}
 use Rattle.cluster_nodes.specs.declared.nodes.Node.TheVariants.{Primary, Replica, Down}
-use Rattle.cluster_nodes.specs.declared.nodes.Place.{Place}
+use Rattle.cluster_nodes.specs.declared.nodes.NodePlace.{NodePlace}
 use Rattle.cluster_nodes.specs.Places.{Disk, place_of, disk_of, disk_at, tickets_of}
 use Rattle.cluster_nodes.specs.Outs.{want_of, want_at, jobs_like, states_like}
 use Rattle.cluster_nodes.specs.Commits.{HasStageAt, StepsBook, AltersCommits, CommitsIn}
@@ -74,7 +74,7 @@ module _ {D : Type 0} (cells : D → Cells) (Step : Infos → CommitBook → Com
         running = was.running;
         primary = was.primary;
         whole = a.0.whole;
-        point = subst (λ (z : Point Shown). IsPointAt (printed log) (version_of n (printed log)) z) (sym (ap (λ (z : PrimaryParts D). z.searchers.point) o)) was.point;
+        point = subst (λ (z : SearchPoint Shown). IsPointAt (printed log) (version_of n (printed log)) z) (sym (ap (λ (z : PrimaryParts D). z.searchers.point) o)) was.point;
         writer = subst (λ (z : Infos × List Shown). WritesAt (printed log) z.0 z.1) (λ i. (sym (ap (λ (z : PrimaryParts D). z.infos) o) i, sym (ap (λ (z : PrimaryParts D). z.segs) o) i)) was.writer;
         waiting = ap (λ (z : PrimaryParts D). z.waiting) o ∙ was.waiting;
         accepted = ap (λ (z : PrimaryParts D). z.accepted) o ∙ was.accepted;
@@ -88,7 +88,7 @@ module _ {D : Type 0} (cells : D → Cells) (Step : Infos → CommitBook → Com
         other = was.other;
         whole = a.0.whole;
         standing = a.0.standing was.standing;
-        point = subst (λ (z : Point Shown). IsPointAt (printed log) (version_of n (printed log)) z) (sym (ap (λ (z : ReplicaParts D). z.searchers.point) o)) was.point;
+        point = subst (λ (z : SearchPoint Shown). IsPointAt (printed log) (version_of n (printed log)) z) (sym (ap (λ (z : ReplicaParts D). z.searchers.point) o)) was.point;
         seen = (let is : s.seen.0 ≡ r.seen.0 = ap (λ (z : ReplicaParts D). z.seen.0) o in let low = was.seen in omega (arith, is, low));
       }
   shows_alter log n (Primary p) (Replica s) a was = absurd a
@@ -100,11 +100,11 @@ module _ {D : Type 0} (cells : D → Cells) (Step : Infos → CommitBook → Com
   shows_alter log n (Down d) (Down e) a was = absurd a
 
   -- its tickets and its job are those that were
-  record Keeps (held : Vec Held Global) (x y : Node D) : Type 0 where
+  record Keeps (held : Vec HeldTicket Global) (x y : Node D) : Type 0 where
     tickets : tickets_of y ≡ tickets_of x
     want : want_at (Some (record { node = y; held = held })) ≡ want_at (Some (record { node = x; held = held }))
 
-  keeps_alter : (held : Vec Held Global) (x y : Node D) → AltersCommits Step cells x y → Keeps held x y
+  keeps_alter : (held : Vec HeldTicket Global) (x y : Node D) → AltersCommits Step cells x y → Keeps held x y
   keeps_alter held (Primary p) (Primary q) a = record { tickets = ap (λ (z : PrimaryParts D). z.searchers.tickets) a.0.others; want = refl }
   keeps_alter held (Replica r) (Replica s) a = record { tickets = ap (λ (z : ReplicaParts D). z.searchers.tickets) a.0.others; want = ap (λ (z : ReplicaParts D). want_of z.job) a.0.others }
   keeps_alter held (Primary p) (Replica s) a = absurd a
@@ -115,7 +115,7 @@ module _ {D : Type 0} (cells : D → Cells) (Step : Infos → CommitBook → Com
   keeps_alter held (Down d) (Replica s) a = absurd a
   keeps_alter held (Down d) (Down e) a = absurd a
 
-  place_alter : (log : Log) (n : ℕ) (held : Vec Held Global) (x y : Node D) → AltersCommits Step cells x y → PlaceShows cells log n (record { node = x; held = held }) → PlaceShows cells log n (record { node = y; held = held })
+  place_alter : (log : Log) (n : ℕ) (held : Vec HeldTicket Global) (x y : Node D) → AltersCommits Step cells x y → PlaceShows cells log n (record { node = x; held = held }) → PlaceShows cells log n (record { node = y; held = held })
   place_alter log n held x y a was = record {
     node_shows = shows_alter log n x y a was.node_shows;
     tickets = subst (λ (l : List (Open Shown)). HoldsTickets (printed log) n l held.items) (sym (keeps_alter held x y a).tickets) was.tickets;
@@ -308,17 +308,17 @@ module _ (source : Name → Content) (size : ℕ) (past : Past) (at : At) (n : N
 -- ---- all nodes
 
 module _ {D : Type 0} (cells : D → Cells) where
-  disk_some : (P : Disk D → Type 0) (o : Option (Place D)) → IsSomeAnd (disk_at o) P → IsSomeAnd o (λ z. P (disk_of z.node))
+  disk_some : (P : Disk D → Type 0) (o : Option (NodePlace D)) → IsSomeAnd (disk_at o) P → IsSomeAnd o (λ z. P (disk_of z.node))
   disk_some P None is = is
   disk_some P (Some z) is = is
 
-  some_disk : (P : Disk D → Type 0) (o : Option (Place D)) → IsSomeAnd o (λ z. P (disk_of z.node)) → IsSomeAnd (disk_at o) P
+  some_disk : (P : Disk D → Type 0) (o : Option (NodePlace D)) → IsSomeAnd o (λ z. P (disk_of z.node)) → IsSomeAnd (disk_at o) P
   some_disk P None is = is
   some_disk P (Some z) is = is
 
-  module _ (Step : Infos → CommitBook → CommitBook → Type 0) (size : ℕ) (log now : Log) (old new : List (Option (Place D))) (n : ℕ) (b : CommitsIn Step cells n old new) (node : IsNode size n)
+  module _ (Step : Infos → CommitBook → CommitBook → Type 0) (size : ℕ) (log now : Log) (old new : List (Option (NodePlace D))) (n : ℕ) (b : CommitsIn Step cells n old new) (node : IsNode size n)
       (shows : Shows cells log size old) (files : FilesShow cells log size old) (grows : Grows (printed log) (printed now)) (same_job : (m : ℕ) → is_at (primary_of (printed log)) m ≡ false → SameJob log now m)
-      (points : PointsStay (printed log) (printed now)) (stay : (m : ℕ) → (n == m) ≡ false → CommitsStay (printed log) (printed now) m) (places : (m : ℕ) (z : Place D) → PlaceShows cells log m z → PlaceShows cells now m z)
+      (points : PointsStay (printed log) (printed now)) (stay : (m : ℕ) → (n == m) ≡ false → CommitsStay (printed log) (printed now) m) (places : (m : ℕ) (z : NodePlace D) → PlaceShows cells log m z → PlaceShows cells now m z)
       (handed : (a : At) → start_entry a (printed now) ≡ None → flush_out a now ≡ None)
       (book : (infos : Infos) (c d : CommitBook) → IsPastPoint files.source (printed log) infos → infos.version.0 ≡ version_of n (printed log) → Step infos c d → BookShows files.source (printed log) n c → BookShows files.source (printed now) n d) where
     abbrev jobs : Out → ℕ
@@ -327,7 +327,7 @@ module _ {D : Type 0} (cells : D → Cells) where
     abbrev count : Out → ℕ
     count s = jobs_like new s size
 
-    abbrev here : Place D
+    abbrev here : NodePlace D
     here = record { node = b.node; held = b.place.held }
 
     both : Both cells files.source log jobs n b.place
@@ -370,7 +370,7 @@ module _ {D : Type 0} (cells : D → Cells) where
   -- ---- the commit in flight
 
   stage_there : (source : Name → Content) (P : Option Stage → Type 0) (log : Log) (n : ℕ) (a : Option At) → commit_in_flight n (printed log) ≡ a → ((s : Option Stage) → StageShows source (printed log) n a s → P s) → is_running n (printed log) ≡ true
-      → (o : Option (Place D)) → IsSomeAnd o (PlaceShows cells log n) → IsSomeAnd (disk_at o) (DiskShows source cells (printed log) n) → HasStageAt P o
+      → (o : Option (NodePlace D)) → IsSomeAnd o (PlaceShows cells log n) → IsSomeAnd (disk_at o) (DiskShows source cells (printed log) n) → HasStageAt P o
   stage_there source P log n a is has up None shows disk = absurd shows
   stage_there source P log n a is has up (Some z) shows disk = node z.node shows.node_shows disk
     where
@@ -403,7 +403,7 @@ may_at r ended b0 at n v view may = subst (λ (x : Run). MayCommit x.nodes (prin
 pub turn_at : (r : Run) (ended : Bool) (b0 b1 : Sheet) (at : At) (n : NodeNo) (v : Version) → {left : Rest} → record { ended = ended; nodes = b0.nodes; log = b0.log; rest = left } ≡ r → b1.log ≡ b0.log → commit_in_flight n.0 (printed r.log) ≡ Some at → InTurn (printed b1.log) at (Committed n v)
 turn_at r ended b0 b1 at n v view e1 flight = record { once = tt; flight = ap (λ (l : Log). commit_in_flight n.0 (printed l)) (e1 ∙ ap (λ (x : Run). x.log) view) ∙ flight }
 
-module _ {D : Type 0} (cells : D → Cells) (r : Run) (ended : Bool) (b0 : Sheet) (old : List (Option (Place D))) (at : At) (n : NodeNo)
+module _ {D : Type 0} (cells : D → Cells) (r : Run) (ended : Bool) (b0 : Sheet) (old : List (Option (NodePlace D))) (at : At) (n : NodeNo)
     {left : Rest} (view : record { ended = ended; nodes = b0.nodes; log = b0.log; rest = left } ≡ r) (running : r.ended ≡ false) (pair : ended ≡ false → Shows cells b0.log b0.nodes old × FilesShow cells b0.log b0.nodes old)
     (node : IsNode r.nodes n.0) (up : is_running n.0 (printed r.log) ≡ true) where
   shows : Shows cells r.log r.nodes old
@@ -435,14 +435,14 @@ module _ {D : Type 0} (cells : D → Cells) (r : Run) (ended : Bool) (b0 : Sheet
     pub may_begin_commit : IsFresh at (printed b0.log) → v.0 ≡ version_of n.0 (printed r.log) → commit_in_flight n.0 (printed r.log) ≡ None → KeepsRule r.nodes (printed r.log) at (Committing n v)
     may_begin_commit fresh version none = record { node = node; running = up; searched = version; alone = rw none refl; spared = (past_has (IsFresh at) r ended b0 view fresh).spared }
 
-    pub begin_commit_path : (new : List (Option (Place D))) → CommitsIn HasBegun cells n.0 old new → (b1 b2 : Sheet) → b1.log ≡ b0.log → b1.nodes ≡ b0.nodes → b2.log ≡ shown at (Committing n v) ∷ b1.log → b2.nodes ≡ b1.nodes
+    pub begin_commit_path : (new : List (Option (NodePlace D))) → CommitsIn HasBegun cells n.0 old new → (b1 b2 : Sheet) → b1.log ≡ b0.log → b1.nodes ≡ b0.nodes → b2.log ≡ shown at (Committing n v) ∷ b1.log → b2.nodes ≡ b1.nodes
         → IsFresh at (printed b0.log) → v.0 ≡ version_of n.0 (printed r.log) → commit_in_flight n.0 (printed r.log) ≡ None → Shows cells b2.log b2.nodes new × FilesShow cells b2.log b2.nodes new
     begin_commit_path new b b1 b2 e1 n1 e2 n2 fresh version none =
         let rule = may_begin_commit fresh version none in
         let fresh_now : IsFresh at (printed r.log) = past_has (IsFresh at) r ended b0 view fresh in
         let turn : InTurn (printed r.log) at (Committing n v) = fresh_turn (printed r.log) at (Committing n v) fresh_now tt in
         let now : Log = shown at (Committing n v) ∷ r.log in
-        let places = λ (m : ℕ) (z : Place D) (has : PlaceShows cells r.log m z). place_same cells r.log (shown at (Committing n v) ∷ r.log) m z
+        let places = λ (m : ℕ) (z : NodePlace D) (has : PlaceShows cells r.log m z). place_same cells r.log (shown at (Committing n v) ∷ r.log) m z
         (same r.nodes m (printed r.log) at (Committing n v) legal_now turns_now rule (λ here. not_flying r.nodes (printed r.log) at legal_now turns_now (unstarted fresh_now)) refl)
         (fewer (printed r.log) at (Committing n v) m refl) (λ a h is. is) has in
         let stay = λ (m : ℕ) (apart : (n.0 == m) ≡ false). commits_shown (printed r.log) at m r.nodes (Committing n v) legal_now turns_now rule turn (ap not apart) (fresh_flights r.nodes (printed r.log) at legal_now turns_now fresh_now.begun m) in
@@ -461,13 +461,13 @@ module _ {D : Type 0} (cells : D → Cells) (r : Run) (ended : Bool) (b0 : Sheet
         unstarted fresh is = absurd (let both : None ≡ Some Publishing = sym fresh.begun ∙ is in cc)
 
     -- a call that is not the last
-    go_path : (new : List (Option (Place D))) → CommitsIn (StepsBook false) cells n.0 old new → (b1 : Sheet) → b1.log ≡ b0.log → b1.nodes ≡ b0.nodes → Shows cells b1.log b1.nodes new × FilesShow cells b1.log b1.nodes new
+    go_path : (new : List (Option (NodePlace D))) → CommitsIn (StepsBook false) cells n.0 old new → (b1 : Sheet) → b1.log ≡ b0.log → b1.nodes ≡ b0.nodes → Shows cells b1.log b1.nodes new × FilesShow cells b1.log b1.nodes new
     go_path new b b1 e1 n1 =
         let log : b1.log ≡ r.log = e1 ∙ ap (λ (x : Run). x.log) view in
         let size : b1.nodes ≡ r.nodes = n1 ∙ ap (λ (x : Run). x.nodes) view in
         let book = λ (infos : Infos) (c d : CommitBook) (point : IsPastPoint files.source (printed r.log) infos) (is : infos.version.0 ≡ version_of n.0 (printed r.log)) (steps : StepsBook false infos c d) (has : BookShows files.source (printed r.log) n.0 c).
         book_goes files.source r.nodes (printed r.log) at n v legal_now infos c d steps has in
-        let places = λ (m : ℕ) (z : Place D) (has : PlaceShows cells r.log m z). has in
+        let places = λ (m : ℕ) (z : NodePlace D) (has : PlaceShows cells r.log m z). has in
         let stay = λ (m : ℕ) (apart : (n.0 == m) ≡ false). commits_alone (printed r.log) m in
         let jobs = λ (m : ℕ) (other : is_at (primary_of (printed r.log)) m ≡ false). job_stays r.log m in (
           now_is cells r.log b1.log r.nodes b1.nodes new log size
@@ -476,17 +476,17 @@ module _ {D : Type 0} (cells : D → Cells) (r : Run) (ended : Bool) (b0 : Sheet
               (commit_files cells (StepsBook false) r.nodes r.log r.log old new n.0 b node shows files (grows_none (printed r.log)) jobs (points_alone (printed r.log)) stay places (λ a none. shows.handed a none) book (λ q bytes out. out)),
         )
 
-    pub go_commit_path : (done : Bool) → done ≡ false → (new : List (Option (Place D))) → CommitsIn (StepsBook done) cells n.0 old new → (b1 : Sheet) → b1.log ≡ b0.log → b1.nodes ≡ b0.nodes → Shows cells b1.log b1.nodes new × FilesShow cells b1.log b1.nodes new
+    pub go_commit_path : (done : Bool) → done ≡ false → (new : List (Option (NodePlace D))) → CommitsIn (StepsBook done) cells n.0 old new → (b1 : Sheet) → b1.log ≡ b0.log → b1.nodes ≡ b0.nodes → Shows cells b1.log b1.nodes new × FilesShow cells b1.log b1.nodes new
     go_commit_path true is new b b1 e1 n1 = absurd (true≢false is)
     go_commit_path false is new b b1 e1 n1 = go_path new b b1 e1 n1
 
     -- the last call
-    end_path : (new : List (Option (Place D))) → CommitsIn (StepsBook true) cells n.0 old new → (b1 b2 : Sheet) → b1.log ≡ b0.log → b1.nodes ≡ b0.nodes → b2.log ≡ shown at (Committed n v) ∷ b1.log → b2.nodes ≡ b1.nodes
+    end_path : (new : List (Option (NodePlace D))) → CommitsIn (StepsBook true) cells n.0 old new → (b1 b2 : Sheet) → b1.log ≡ b0.log → b1.nodes ≡ b0.nodes → b2.log ≡ shown at (Committed n v) ∷ b1.log → b2.nodes ≡ b1.nodes
         → MayCommit b0.nodes (printed b0.log) at n v → commit_in_flight n.0 (printed r.log) ≡ Some at → start_entry at (printed r.log) ≡ Some (Committing n v) → Shows cells b2.log b2.nodes new × FilesShow cells b2.log b2.nodes new
     end_path new b b1 b2 e1 n1 e2 n2 may flight started =
         let rule : KeepsRule r.nodes (printed r.log) at (Committed n v) = subst (λ (x : Run). MayCommit x.nodes (printed x.log) at n v) view may in
         let turn : InTurn (printed r.log) at (Committed n v) = record { once = tt; flight = flight } in
-        let places = λ (m : ℕ) (z : Place D) (has : PlaceShows cells r.log m z). place_same cells r.log (shown at (Committed n v) ∷ r.log) m z
+        let places = λ (m : ℕ) (z : NodePlace D) (has : PlaceShows cells r.log m z). place_same cells r.log (shown at (Committed n v) ∷ r.log) m z
         (same r.nodes m (printed r.log) at (Committed n v) legal_now turns_now rule (λ here. not_flying r.nodes (printed r.log) at legal_now turns_now (commits started)) refl)
         (fewer (printed r.log) at (Committed n v) m refl) (λ a h is. is) has in
         let stay = λ (m : ℕ) (apart : (n.0 == m) ≡ false). commits_shown (printed r.log) at m r.nodes (Committed n v) legal_now turns_now rule turn (ap not apart) (elsewhere m apart started) in
@@ -513,7 +513,7 @@ module _ {D : Type 0} (cells : D → Cells) (r : Run) (ended : Bool) (b0 : Sheet
             let both : Some (Committing n v) ≡ Some (Committing (record { 0 = m }) found.version) = sym started ∙ found.entry in
             absurd (true≢false (sym (eq-eqb n.0 m (at_node m found.version both)) ∙ apart))
 
-    pub end_commit_path : (done : Bool) → done ≡ true → (new : List (Option (Place D))) → CommitsIn (StepsBook done) cells n.0 old new → (b1 b2 : Sheet) → b1.log ≡ b0.log → b1.nodes ≡ b0.nodes → b2.log ≡ shown at (Committed n v) ∷ b1.log → b2.nodes ≡ b1.nodes
+    pub end_commit_path : (done : Bool) → done ≡ true → (new : List (Option (NodePlace D))) → CommitsIn (StepsBook done) cells n.0 old new → (b1 b2 : Sheet) → b1.log ≡ b0.log → b1.nodes ≡ b0.nodes → b2.log ≡ shown at (Committed n v) ∷ b1.log → b2.nodes ≡ b1.nodes
         → MayCommit b0.nodes (printed b0.log) at n v → commit_in_flight n.0 (printed r.log) ≡ Some at → start_entry at (printed r.log) ≡ Some (Committing n v) → Shows cells b2.log b2.nodes new × FilesShow cells b2.log b2.nodes new
     end_commit_path true is new b b1 b2 e1 n1 e2 n2 may flight started = end_path new b b1 b2 e1 n1 e2 n2 may flight started
     end_commit_path false is new b b1 b2 e1 n1 e2 n2 may flight started = absurd (true≢false (sym is))

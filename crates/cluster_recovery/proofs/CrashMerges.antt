@@ -14,7 +14,7 @@ use Rattle.history_book.specs.Jobs.{job_at}
 use Rattle.history_book.specs.Turns.{AreInTurn}
 use Rattle.merge_tasks.specs.Merging.{Sheet}
 use Rattle.merge_tasks.specs.Board.{Board}
-use Rattle.cluster_nodes.specs.declared.nodes.Place.{Place}
+use Rattle.cluster_nodes.specs.declared.nodes.NodePlace.{NodePlace}
 use Rattle.cluster_nodes.specs.Lives.{CrashesIn}
 use Rattle.cluster_recovery.specs.Falls.{Falls}
 use Rattle.cluster_nodes.specs.Outs.{want_at}
@@ -36,7 +36,7 @@ use Rattle.cluster_recovery.proofs.Crashing.{crash_keeps, crash_sent}
 use Rattle.cluster_recovery.proofs.FallenMerges.{lost_all, lost_all_files, lost_jobs, fallen}
 
 module _ {D : Type 0} (cells : D → Cells) where
-  pub crash_all : (r : Run) (ended : Bool) (b0 b1 b2 : Sheet) (board now : Board) (old mid new : List (Option (Place D))) (at : At) (n : NodeNo) (reigning : Option NodeNo) → {left : Rest} → record { ended = ended; nodes = b0.nodes; log = b0.log; rest = left } ≡ r → r.ended ≡ false
+  pub crash_all : (r : Run) (ended : Bool) (b0 b1 b2 : Sheet) (board now : Board) (old mid new : List (Option (NodePlace D))) (at : At) (n : NodeNo) (reigning : Option NodeNo) → {left : Rest} → record { ended = ended; nodes = b0.nodes; log = b0.log; rest = left } ≡ r → r.ended ≡ false
       → (ended ≡ false → Shows cells b0.log b0.nodes old × FilesShow cells b0.log b0.nodes old) → MergesStand b0.log b0.cut b0.nodes board old → b1.log ≡ b0.log → b1.nodes ≡ b0.nodes → b1.cut ≡ b0.cut → b2.log ≡ shown at (Crashed n) ∷ b1.log → b2.nodes ≡ b1.nodes
       → b2.cut ≡ (if is_at (primary_of (printed b1.log)) n.0 then false else b1.cut) → IsLegalPast b1.nodes (printed b1.log) → AreInTurn (printed b1.log) → FilesLast → ((m : ℕ) → primary_of (printed b2.log) ≡ None → job_at m b2.log ≡ None) → IsFresh at (printed b0.log)
       → IsNode r.nodes n.0 → is_running n.0 (printed r.log) ≡ true → reigning ≡ primary_of (printed r.log) → CrashesIn cells reigning n.0 old mid → Shows cells b2.log b2.nodes mid × FilesShow cells b2.log b2.nodes mid
@@ -89,7 +89,7 @@ module _ {D : Type 0} (cells : D → Cells) where
       cut_is t e = c2 ∙ (ap (λ (c : Bool). if c then false else b1.cut) (ap (λ (l : Log). is_at (primary_of (printed l)) n.0) (e1 ∙ ap (λ (x : Run). x.log) view) ∙ at_primary t e) ∙ ap (λ (c : Bool). if t then false else c) c1)
 
       -- in the terms of the log as it is now
-      back : (cut : Bool) (board : Board) (places : List (Option (Place D))) → b2.cut ≡ cut → Shows cells (shown at (Crashed n) ∷ r.log) r.nodes places → FilesShow cells (shown at (Crashed n) ∷ r.log) r.nodes places
+      back : (cut : Bool) (board : Board) (places : List (Option (NodePlace D))) → b2.cut ≡ cut → Shows cells (shown at (Crashed n) ∷ r.log) r.nodes places → FilesShow cells (shown at (Crashed n) ∷ r.log) r.nodes places
           → MergesStand (shown at (Crashed n) ∷ r.log) cut r.nodes board places → Shows cells b2.log b2.nodes places × FilesShow cells b2.log b2.nodes places × MergesStand b2.log b2.cut b2.nodes board places
       back cut board places same shows files merges = (
         subst (λ (x : Log × ℕ). Shows cells x.0 x.1 places) (λ i. (sym log i, sym size i)) shows,
@@ -109,14 +109,14 @@ module _ {D : Type 0} (cells : D → Cells) where
       tests false e =
           let far = at_primary false e in
           let kept = stays e in
-          subst (λ (x : Board × List (Option (Place D))). Shows cells b2.log b2.nodes x.1 × FilesShow cells b2.log b2.nodes x.1 × MergesStand b2.log b2.cut b2.nodes x.0 x.1) (λ i. (sym kept.0 i, sym kept.1 i))
+          subst (λ (x : Board × List (Option (NodePlace D))). Shows cells b2.log b2.nodes x.1 × FilesShow cells b2.log b2.nodes x.1 × MergesStand b2.log b2.cut b2.nodes x.0 x.1) (λ i. (sym kept.0 i, sym kept.1 i))
           (back b0.cut board mid (cut_is false e) shows_mid files_mid
           (stand_moved r.log (shown at (Crashed n) ∷ r.log) b0.cut r.nodes board old mid (λ seg inputs got. got) (tasks_still r.nodes r.log board at (Crashed n) (ap not far) m.tasks)
           (λ gone. sym (ap (λ (c : Bool). if c then None else primary_of (printed r.log)) far) ∙ gone)
           (crash_keeps cells r.nodes r.log old mid at n legal_r turns_r rule none crashes lasting vacant_r node s f far) m))
 
   -- what the jobs of the other nodes lack and have is as before
-  pub crash_jobs : (r x : Run) (old mid new : List (Option (Place D))) (primary : Option NodeNo) (n : NodeNo) (board now : Board) → r.rest.jobs ≡ jobs_in old → x.rest.jobs ≡ jobs_in new → CrashesIn cells primary n.0 old mid
+  pub crash_jobs : (r x : Run) (old mid new : List (Option (NodePlace D))) (primary : Option NodeNo) (n : NodeNo) (board now : Board) → r.rest.jobs ≡ jobs_in old → x.rest.jobs ≡ jobs_in new → CrashesIn cells primary n.0 old mid
       → (is_at primary n.0 ≡ true → Falls cells board now mid new) → (is_at primary n.0 ≡ false → (now ≡ board) × (new ≡ mid)) → (m : ℕ) → (n.0 == m) ≡ false → files_at m x ≡ files_at m r
   crash_jobs r x old mid new primary n board now before after b falls stays m apart =
       files_are m x new after
@@ -125,4 +125,4 @@ module _ {D : Type 0} (cells : D → Cells) where
     where
       kept : (t : Bool) → is_at primary n.0 ≡ t → place_files (place_of new m) ≡ place_files (place_of mid m)
       kept true e = lost_jobs cells board.rows 0 [] mid new (falls e).lose m
-      kept false e = ap (λ (l : List (Option (Place D))). place_files (place_of l m)) (stays e).1
+      kept false e = ap (λ (l : List (Option (NodePlace D))). place_files (place_of l m)) (stays e).1

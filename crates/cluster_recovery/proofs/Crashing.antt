@@ -25,7 +25,7 @@ use Rattle.commit_steps.specs.Book.{commit_of, shown_in, shown_by, stage_names, 
 use Rattle.commit_steps.proofs.Beside.{sound_images}
 use Rattle.commit_steps.proofs.Safe.{among_of}
 use Rattle.searcher_switch.specs.Node.{IsWholeNode}
-use Rattle.primary_state.specs.declared.parts.Parts.{Parts as PrimaryParts}
+use Rattle.primary_state.specs.declared.parts.PrimaryParts.{PrimaryParts}
 use Rattle.primary_state.specs.declared.states.Out.{Out}
 use Rattle.primary_state.specs.Primary.{primary_names}
 use Rattle.primary_state.specs.States.{is_out}
@@ -34,7 +34,7 @@ use Rattle.replica_opening.specs.Opened.{IsSettledOn}
 use Rattle.replica_opening.proofs.Settled.{restarted_settled}
 use Rattle.replica_state.specs.declared.job.PointJob.{PointJob}
 use Rattle.replica_state.specs.declared.merges.MergeCopies.{MergeCopies}
-use Rattle.replica_state.specs.declared.parts.Parts.{Parts as ReplicaParts}
+use Rattle.replica_state.specs.declared.parts.ReplicaParts.{ReplicaParts}
 use Rattle.replica_state.specs.Replica.{replica_names}
 use Rattle.replica_state.specs.Sources.{HeldReadAs}
 use Rattle.history_rules.specs.declared.entry.Entry.{Entry}
@@ -63,10 +63,10 @@ use Rattle.history_book.specs.Turns.{AreInTurn}
 use Rattle.history_book.proofs.LineLaws.{without_some}
 use Rattle.history_book.proofs.ReignLaws.{node_crashes_rise}
 use Rattle.merge_tasks.specs.declared.tasks.OpenMerge.{OpenMerge}
-use Rattle.cluster_nodes.specs.declared.held.Held.{Held}
+use Rattle.cluster_nodes.specs.declared.held.HeldTicket.{HeldTicket}
 use Rattle.cluster_nodes.specs.declared.nodes.Node.{Node}
 use Rattle.cluster_nodes.specs.declared.nodes.Node.TheVariants.{Primary, Replica, Down}
-use Rattle.cluster_nodes.specs.declared.nodes.Place.{Place}
+use Rattle.cluster_nodes.specs.declared.nodes.NodePlace.{NodePlace}
 use Rattle.cluster_nodes.specs.Places.{Disk, place_of, disk_of, disk_at, dir_of, HasPrimary}
 use Rattle.cluster_nodes.specs.Outs.{one_like, want_at, jobs_like, states_like}
 use Rattle.cluster_nodes.specs.JobChanges.{given_back}
@@ -177,7 +177,7 @@ module _ (past : Past) (at : At) (n : NodeNo) where
       let once = crashes_once in
       omega (arith, same, rise, once)
 
-  none_held : (held : List Held) → held ≡ [] → HoldsTickets crashed n.0 [] held
+  none_held : (held : List HeldTicket) → held ≡ [] → HoldsTickets crashed n.0 [] held
   none_held held none = subst (HoldsTickets crashed n.0 []) (sym none) (record {
     each = λ key number is. absurd (none-some number is);
     apart = λ a b number is is'. absurd (none-some number is);
@@ -333,12 +333,12 @@ module _ {D : Type 0} (cells : D → Cells) where
       node (Replica r) shows files disk left = of_image left.0 left.2 (cells r.dir) r.files (replica_names r) r.commits shows.whole.node files.sourced.held disk.book left.1
       node (Down d) shows files disk left = absurd (true≢false (sym rule.running ∙ shows.down))
 
-  module _ (size : ℕ) (log : Log) (old new : List (Option (Place D))) (at : At) (n : NodeNo) (legal : IsLegalPast size (printed log)) (turns : AreInTurn (printed log)) (rule : KeepsRule size (printed log) at (Crashed n))
+  module _ (size : ℕ) (log : Log) (old new : List (Option (NodePlace D))) (at : At) (n : NodeNo) (legal : IsLegalPast size (printed log)) (turns : AreInTurn (printed log)) (rule : KeepsRule size (printed log) at (Crashed n))
       (none : start_entry at (printed log) ≡ None) (b : CrashesIn cells (primary_of (printed log)) n.0 old new) where
     abbrev now : Log
     now = shown at (Crashed n) ∷ log
 
-    abbrev left : Place D
+    abbrev left : NodePlace D
     left = record { node = Down b.dir; held = b.held }
 
     -- the running primary, and the copy state of the node's job
@@ -353,7 +353,7 @@ module _ {D : Type 0} (cells : D → Cells) where
     not_publishing : start_entry at (printed log) ≢ Some Publishing
     not_publishing is = absurd (let both : None ≡ Some Publishing = sym none ∙ is in cc)
 
-    stays : (m : ℕ) (z : Place D) → (n.0 == m) ≡ false → PlaceShows cells log m z → PlaceShows cells now m z
+    stays : (m : ℕ) (z : NodePlace D) → (n.0 == m) ≡ false → PlaceShows cells log m z → PlaceShows cells now m z
     stays m z apart has = place_same cells log now m z (same size m (printed log) at (Crashed n) legal turns rule (λ here. not_flying size (printed log) at legal turns not_publishing) apart)
         (fewer (printed log) at (Crashed n) m apart) (λ a h is. is) has
 
@@ -393,7 +393,7 @@ module _ {D : Type 0} (cells : D → Cells) where
       fewer_jobs far s =
           let moved = jobs_moved old new s n.0 size node.0 node.1
           (λ m apart. wants_stay cells (is_at primary m) state (place_of old m) (place_of new m) (subst (λ (c : Bool). PlaceOutlives cells c (is_at primary m) state (place_of old m) (place_of new m)) far (b.others m apart))) in
-          let gone : one_like s (want_at (place_of new n.0)) ≡ 0 = ap (λ (o : Option (Place D)). one_like s (want_at o)) b.here in
+          let gone : one_like s (want_at (place_of new n.0)) ≡ 0 = ap (λ (o : Option (NodePlace D)). one_like s (want_at o)) b.here in
           omega (arith, moved, gone)
 
       -- and none is where the primary crashed
@@ -494,11 +494,11 @@ module _ {D : Type 0} (cells : D → Cells) where
       grows : Grows (printed log) (printed now)
       grows = grows_shown size (printed log) at (Crashed n) legal rule
 
-      disk_some : (P : Disk D → Type 0) (o : Option (Place D)) → IsSomeAnd (disk_at o) P → IsSomeAnd o (λ z. P (disk_of z.node))
+      disk_some : (P : Disk D → Type 0) (o : Option (NodePlace D)) → IsSomeAnd (disk_at o) P → IsSomeAnd o (λ z. P (disk_of z.node))
       disk_some P None is = is
       disk_some P (Some z) is = is
 
-      some_disk : (P : Disk D → Type 0) (o : Option (Place D)) → IsSomeAnd o (λ z. P (disk_of z.node)) → IsSomeAnd (disk_at o) P
+      some_disk : (P : Disk D → Type 0) (o : Option (NodePlace D)) → IsSomeAnd o (λ z. P (disk_of z.node)) → IsSomeAnd (disk_at o) P
       some_disk P None is = is
       some_disk P (Some z) is = is
 
@@ -541,7 +541,7 @@ module _ {D : Type 0} (cells : D → Cells) where
       pub crash_keeps : is_at primary n.0 ≡ false → KeepAllMerges size old new
       crash_keeps far m here = by_test (n.0 == m) (λ t. (n.0 == m) ≡ t → PlaceKeepsMerges jobs count (place_of old m) (place_of new m))
           (λ same q. subst (λ (k : ℕ). PlaceKeepsMerges jobs count (place_of old k) (place_of new k)) (eqb-true n.0 m same)
-          (subst (λ (z : Option (Place D) × Option (Place D)). PlaceKeepsMerges jobs count z.0 z.1) (λ i. (sym b.there i, sym b.here i)) (down_keeps b.place.node b.dir)))
+          (subst (λ (z : Option (NodePlace D) × Option (NodePlace D)). PlaceKeepsMerges jobs count z.0 z.1) (λ i. (sym b.there i, sym b.here i)) (down_keeps b.place.node b.dir)))
           (λ apart q. others (place_of old m) (place_of new m)
           (subst (λ (c : Bool). PlaceOutlives cells c (is_at primary m) state (place_of old m) (place_of new m)) far (b.others m apart)) (files.each m here))
           refl
@@ -565,7 +565,7 @@ module _ {D : Type 0} (cells : D → Cells) where
           tests true (Down d) v out was = absurd out
           tests false u v out was = subst (λ (z : Node D). KeepsMerges jobs count u z) (sym out) (node_keeps jobs count u low)
 
-          others : (o k : Option (Place D)) → PlaceOutlives cells false (is_at primary m) state o k → IsSomeAnd o (λ z. NodeFiles files.source cells log jobs m z.node) → PlaceKeepsMerges jobs count o k
+          others : (o k : Option (NodePlace D)) → PlaceOutlives cells false (is_at primary m) state o k → IsSomeAnd o (λ z. NodeFiles files.source cells log jobs m z.node) → PlaceKeepsMerges jobs count o k
           others None k out none = absurd none
           others (Some x) None out was = absurd out
           others (Some x) (Some y) out was = tests (is_at primary m) x.node y.node out.node was
@@ -587,16 +587,16 @@ module _ {D : Type 0} (cells : D → Cells) where
   -- ---- in the terms of a call
 
   -- the running primary stands in its place, and the state of the node's job is out there
-  can_take_back : (log : Log) (size : ℕ) (places : List (Option (Place D))) (p n : NodeNo) → Shows cells log size places → FilesShow cells log size places → primary_of (printed log) ≡ Some p → IsNode size p.0 → IsNode size n.0 → CanTakeBack p.0 n.0 places
+  can_take_back : (log : Log) (size : ℕ) (places : List (Option (NodePlace D))) (p n : NodeNo) → Shows cells log size places → FilesShow cells log size places → primary_of (printed log) ≡ Some p → IsNode size p.0 → IsNode size n.0 → CanTakeBack p.0 n.0 places
   can_take_back log size places p n shows files is reigns node =
       let here = primary_here cells log size p.0 places shows files reigns (ap (λ (o : Option NodeNo). is_at o p.0) is ∙ eq-eqb p.0 p.0 refl) in
       record {
         slot = here.at.slot;
-        primary = subst (λ (o : Option (Place D)). HasPrimary o) (sym here.at.there) tt;
+        primary = subst (λ (o : Option (NodePlace D)). HasPrimary o) (sym here.at.there) tt;
         out = λ q held there. out here q held there (want_at (place_of places n.0)) refl;
       }
     where
-      out : (here : PrimaryHere cells files.source log (λ s. jobs_like places s size) p.0 places) (q : PrimaryParts D) (held : Vec Held Global) → place_of places p.0 ≡ Some (record { node = Primary q; held = held })
+      out : (here : PrimaryHere cells files.source log (λ s. jobs_like places s size) p.0 places) (q : PrimaryParts D) (held : Vec HeldTicket Global) → place_of places p.0 ≡ Some (record { node = Primary q; held = held })
           → (o : Option Out) → want_at (place_of places n.0) ≡ o → IfSome o (λ s. is_out s q.states ≡ true)
       out here q held there None none = tt
       out here q held there (Some s) want =
@@ -606,15 +606,15 @@ module _ {D : Type 0} (cells : D → Cells) where
         where
           mine : is_out s here.at.parts.states ≡ true → is_out s q.states ≡ true
           mine has = some_at (λ z. elim z.node [ Primary k ↦ is_out s k.states ≡ true | Replica r ↦ ⊥ | Down d ↦ ⊥ ]) (place_of places p.0) (record { node = Primary q; held = held }) there
-              (subst (λ (o : Option (Place D)). IsSomeAnd o (λ z. elim z.node [ Primary k ↦ is_out s k.states ≡ true | Replica r ↦ ⊥ | Down d ↦ ⊥ ])) (sym here.at.there) has)
+              (subst (λ (o : Option (NodePlace D)). IsSomeAnd o (λ z. elim z.node [ Primary k ↦ is_out s k.states ≡ true | Replica r ↦ ⊥ | Down d ↦ ⊥ ])) (sym here.at.there) has)
 
-  pub can_end : (r : Run) (ended : Bool) (b : Sheet) (places : List (Option (Place D))) (primary : Option NodeNo) (n : NodeNo) → {left : Rest} → record { ended = ended; nodes = b.nodes; log = b.log; rest = left } ≡ r → r.ended ≡ false
+  pub can_end : (r : Run) (ended : Bool) (b : Sheet) (places : List (Option (NodePlace D))) (primary : Option NodeNo) (n : NodeNo) → {left : Rest} → record { ended = ended; nodes = b.nodes; log = b.log; rest = left } ≡ r → r.ended ≡ false
       → (ended ≡ false → Shows cells b.log b.nodes places × FilesShow cells b.log b.nodes places) → primary ≡ primary_of (printed r.log) → IfSome primary (λ p. IsNode r.nodes p.0) → IsNode r.nodes n.0 → CanEnd primary n.0 places
   can_end r ended b places None n view running pair is reigns node = tt
   can_end r ended b places (Some p) n view running pair is reigns node =
       can_take_back r.log r.nodes places p n (was cells r ended b.nodes b.log places view running (λ e. (pair e).0)) (files_was cells r ended b.nodes b.log places view running (λ e. (pair e).1)) (sym is) reigns node
 
-  pub crash_path : (r : Run) (ended : Bool) (b0 b1 b2 : Sheet) (old new : List (Option (Place D))) (at : At) (n : NodeNo) (reigning : Option NodeNo) → {left : Rest} → record { ended = ended; nodes = b0.nodes; log = b0.log; rest = left } ≡ r → r.ended ≡ false
+  pub crash_path : (r : Run) (ended : Bool) (b0 b1 b2 : Sheet) (old new : List (Option (NodePlace D))) (at : At) (n : NodeNo) (reigning : Option NodeNo) → {left : Rest} → record { ended = ended; nodes = b0.nodes; log = b0.log; rest = left } ≡ r → r.ended ≡ false
       → (ended ≡ false → Shows cells b0.log b0.nodes old × FilesShow cells b0.log b0.nodes old) → b1.log ≡ b0.log → b1.nodes ≡ b0.nodes → b2.log ≡ shown at (Crashed n) ∷ b1.log → b2.nodes ≡ b1.nodes
       → IsLegalPast b1.nodes (printed b1.log) → AreInTurn (printed b1.log) → FilesLast → ((m : ℕ) → primary_of (printed b2.log) ≡ None → job_at m b2.log ≡ None) → IsFresh at (printed b0.log) → IsNode r.nodes n.0
       → is_running n.0 (printed r.log) ≡ true → reigning ≡ primary_of (printed r.log) → CrashesIn cells reigning n.0 old new → Shows cells b2.log b2.nodes new × FilesShow cells b2.log b2.nodes new

@@ -6,7 +6,7 @@ use Rattle.std.proofs.lemmas.Bool.{eqb-true}
 use Rattle.std.proofs.lemmas.Bool.Decides.{nat_tests}
 use Rattle.disk_model.specs.Disk.{Cells}
 use Rattle.copy_job.specs.Jobs.{Job}
-use Rattle.replica_state.specs.declared.parts.Parts.{Parts as ReplicaParts}
+use Rattle.replica_state.specs.declared.parts.ReplicaParts.{ReplicaParts}
 use Rattle.replica_state.specs.declared.merges.MergeCopies.{MergeCopies}
 use Rattle.replica_state.specs.Merges.{copy_at, copies_without}
 use Rattle.replica_state.specs.Replica.{IsWholeReplica}
@@ -14,7 +14,7 @@ use Rattle.merge_tasks.specs.declared.tasks.OpenMerge.{OpenMerge}
 use Rattle.merge_tasks.specs.declared.tasks.Sent.{Sent}
 use Rattle.merge_tasks.specs.declared.tasks.Spread.{Spread}
 use Rattle.merge_tasks.specs.Board.{is_sent_in, is_sent_to}
-use Rattle.cluster_nodes.specs.declared.nodes.Place.{Place}
+use Rattle.cluster_nodes.specs.declared.nodes.NodePlace.{NodePlace}
 use Rattle.cluster_nodes.specs.Places.{place_of}
 use Rattle.node_merges.specs.MergeChanges.{DropsMerged}
 use Rattle.cluster_state.specs.Merging.{RunsNoOther}
@@ -191,15 +191,15 @@ module _ {D : Type 0} (cells : D → Cells) where
   -- ---- all places
 
   -- the first places have lost their copies, and the others are as before
-  pub record LosesUpTo (rows : List OpenMerge) (old new : List (Option (Place D))) (k : ℕ) : Type 0 where
+  pub record LosesUpTo (rows : List OpenMerge) (old new : List (Option (NodePlace D))) (k : ℕ) : Type 0 where
     pub count : length new ≡ length old
     pub ended : (m : ℕ) → 1 ≤ m → m ≤ k → PlaceLoses cells m rows (place_of old m) (place_of new m)
     pub still : (m : ℕ) → suc k ≤ m → place_of new m ≡ place_of old m
 
-  pub no_place : (rows : List OpenMerge) (places : List (Option (Place D))) → LosesUpTo rows places places 0
+  pub no_place : (rows : List OpenMerge) (places : List (Option (NodePlace D))) → LosesUpTo rows places places 0
   no_place rows places = record { count = refl; ended = λ m first low. absurd (omega (arith, first, low)); still = λ m above. refl }
 
-  pub one_place : (rows : List OpenMerge) (old mid new : List (Option (Place D))) (k : ℕ) → LosesUpTo rows old mid k → length new ≡ length mid → PlaceLoses cells (k + 1) rows (place_of mid (k + 1)) (place_of new (k + 1))
+  pub one_place : (rows : List OpenMerge) (old mid new : List (Option (NodePlace D))) (k : ℕ) → LosesUpTo rows old mid k → length new ≡ length mid → PlaceLoses cells (k + 1) rows (place_of mid (k + 1)) (place_of new (k + 1))
       → ((m : ℕ) → ((k + 1) == m) ≡ false → place_of new m ≡ place_of mid m) → LosesUpTo rows old new (k + 1)
   one_place rows old mid new k was count here others = record {
     count = count ∙ was.count;
@@ -211,18 +211,18 @@ module _ {D : Type 0} (cells : D → Cells) where
       tests m first low true is =
           let same : k + 1 ≡ m = eqb-true (k + 1) m is in
           subst (λ (j : ℕ). PlaceLoses cells j rows (place_of old j) (place_of new j)) same
-          (subst (λ (o : Option (Place D)). PlaceLoses cells (k + 1) rows o (place_of new (k + 1))) (was.still (k + 1) (omega arith)) here)
+          (subst (λ (o : Option (NodePlace D)). PlaceLoses cells (k + 1) rows o (place_of new (k + 1))) (was.still (k + 1) (omega arith)) here)
       tests m first low false apart =
-          subst (λ (o : Option (Place D)). PlaceLoses cells m rows (place_of old m) o) (sym (others m apart)) (was.ended m first (let up : m ≤ k + 1 = low in let other : ((k + 1) == m) ≡ false = apart in grind (arith, nat_tests)))
+          subst (λ (o : Option (NodePlace D)). PlaceLoses cells m rows (place_of old m) o) (sym (others m apart)) (was.ended m first (let up : m ≤ k + 1 = low in let other : ((k + 1) == m) ≡ false = apart in grind (arith, nat_tests)))
 
   -- no place is above the last
-  past_last : (places : List (Option (Place D))) (m : ℕ) → suc (length places) ≤ m → place_of places m ≡ None
+  past_last : (places : List (Option (NodePlace D))) (m : ℕ) → suc (length places) ≤ m → place_of places m ≡ None
   past_last places zero above = refl
   past_last [] (suc m) above = refl
   past_last (x ∷ places) (suc zero) above = absurd (omega (arith, above))
   past_last (x ∷ places) (suc (suc m)) above = past_last places (suc m) (omega (arith, above))
 
-  pub all_places : (rows : List OpenMerge) (old new : List (Option (Place D))) (k : ℕ) → LosesUpTo rows old new k → k ≡ length old → AllLose cells rows old new
+  pub all_places : (rows : List OpenMerge) (old new : List (Option (NodePlace D))) (k : ℕ) → LosesUpTo rows old new k → k ≡ length old → AllLose cells rows old new
   all_places rows old new k was is = record { count = was.count; each = λ m. by m }
     where
       by : (m : ℕ) → PlaceLoses cells m rows (place_of old m) (place_of new m)
@@ -234,4 +234,4 @@ module _ {D : Type 0} (cells : D → Cells) where
           tests false above =
               let up : suc k ≤ suc m = (let l : nat_le (suc m) k ≡ false = above in grind (arith, nat_tests)) in
               let none : place_of old (suc m) ≡ None = past_last old (suc m) (omega (arith, up, is)) in
-              subst (λ (o : Option (Place D)). PlaceLoses cells (suc m) rows o (place_of new (suc m))) (sym none) (was.still (suc m) up ∙ none)
+              subst (λ (o : Option (NodePlace D)). PlaceLoses cells (suc m) rows o (place_of new (suc m))) (sym none) (was.still (suc m) up ∙ none)

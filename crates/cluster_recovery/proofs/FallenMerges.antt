@@ -11,7 +11,7 @@ use Rattle.seg_reader.specs.Shown.{Shown}
 use Rattle.searcher_switch.specs.declared.open.Open.{Open}
 use Rattle.copy_job.specs.Jobs.{Job}
 use Rattle.primary_state.specs.declared.states.Out.{Out}
-use Rattle.replica_state.specs.declared.parts.Parts.{Parts as ReplicaParts}
+use Rattle.replica_state.specs.declared.parts.ReplicaParts.{ReplicaParts}
 use Rattle.replica_state.specs.Merges.{copy_at}
 use Rattle.history_rules.specs.declared.entry.Event.TheVariants.{Crashed}
 use Rattle.history_rules.specs.Nodes.{Past, IsNode, is_at, primary_of, generation_of, version_of}
@@ -23,10 +23,10 @@ use Rattle.merge_tasks.specs.declared.tasks.Spread.{Spread}
 use Rattle.merge_tasks.specs.declared.tasks.OpenMerge.{OpenMerge}
 use Rattle.merge_tasks.specs.Board.{Board, open_merge, spread_at, is_sent_in, is_sent_to, TasksShow}
 use Rattle.merge_tasks.proofs.TaskFrames.{tasks_fallen}
-use Rattle.cluster_nodes.specs.declared.held.Held.{Held}
+use Rattle.cluster_nodes.specs.declared.held.HeldTicket.{HeldTicket}
 use Rattle.cluster_nodes.specs.declared.nodes.Node.{Node}
 use Rattle.cluster_nodes.specs.declared.nodes.Node.TheVariants.{Primary, Replica, Down}
-use Rattle.cluster_nodes.specs.declared.nodes.Place.{Place}
+use Rattle.cluster_nodes.specs.declared.nodes.NodePlace.{NodePlace}
 use Rattle.cluster_nodes.specs.Places.{Disk, place_of, disk_of, disk_at, tickets_of}
 use Rattle.cluster_state.specs.JobsIn.{job_files, place_files}
 use Rattle.cluster_nodes.specs.Outs.{want_of, want_at, jobs_like, states_like}
@@ -72,7 +72,7 @@ module _ {D : Type 0} (cells : D → Cells) (rows : List OpenMerge) where
   same_tickets m (Primary p) y ends = ap tickets_of ends
   same_tickets m (Down d) y ends = ap tickets_of ends
 
-  same_want : (m : ℕ) (x y : Place D) → NodeLoses cells m rows x.node y.node → want_at (Some y) ≡ want_at (Some x)
+  same_want : (m : ℕ) (x y : NodePlace D) → NodeLoses cells m rows x.node y.node → want_at (Some y) ≡ want_at (Some x)
   same_want m x y = by x.node y.node
     where
       want : Node D → Option Out
@@ -132,12 +132,12 @@ module _ {D : Type 0} (cells : D → Cells) (rows : List OpenMerge) where
 
   -- ---- all nodes
 
-  module _ (size : ℕ) (log : Log) (old new : List (Option (Place D))) (lose : AllLose cells rows old new) where
-    lose_each : {P Q : ℕ → Place D → Type 0} → ((m : ℕ) → IsNode size m → IsSomeAnd (place_of old m) (P m)) → ((m : ℕ) (x y : Place D) → y.held ≡ x.held → NodeLoses cells m rows x.node y.node → P m x → Q m y)
+  module _ (size : ℕ) (log : Log) (old new : List (Option (NodePlace D))) (lose : AllLose cells rows old new) where
+    lose_each : {P Q : ℕ → NodePlace D → Type 0} → ((m : ℕ) → IsNode size m → IsSomeAnd (place_of old m) (P m)) → ((m : ℕ) (x y : NodePlace D) → y.held ≡ x.held → NodeLoses cells m rows x.node y.node → P m x → Q m y)
         → (m : ℕ) → IsNode size m → IsSomeAnd (place_of new m) (Q m)
     lose_each {P = P} {Q = Q} was step m node = by (place_of old m) (place_of new m) (lose.each m) (was m node)
       where
-        by : (o k : Option (Place D)) → PlaceLoses cells m rows o k → IsSomeAnd o (P m) → IsSomeAnd k (Q m)
+        by : (o k : Option (NodePlace D)) → PlaceLoses cells m rows o k → IsSomeAnd o (P m) → IsSomeAnd k (Q m)
         by None k lost none = absurd none
         by (Some x) None lost is = absurd lost
         by (Some x) (Some y) lost is = step m x y lost.0 lost.1 is
@@ -148,7 +148,7 @@ module _ {D : Type 0} (cells : D → Cells) (rows : List OpenMerge) where
       count = lose.count ∙ shows.count;
       each = lose_each {P = PlaceShows cells log} {Q = PlaceShows cells log} shows.each (λ m x y held lost is. record {
         node_shows = lost_shows log m x.node y.node lost is.node_shows;
-        tickets = subst (λ (z : List (Open Shown) × List Held). HoldsTickets (printed log) m z.0 z.1) (λ i. (sym (same_tickets m x.node y.node lost) i, (sym held i).items)) is.tickets;
+        tickets = subst (λ (z : List (Open Shown) × List HeldTicket). HoldsTickets (printed log) m z.0 z.1) (λ i. (sym (same_tickets m x.node y.node lost) i, (sym held i).items)) is.tickets;
       });
       handed = shows.handed;
     }
@@ -156,7 +156,7 @@ module _ {D : Type 0} (cells : D → Cells) (rows : List OpenMerge) where
     wants : (m : ℕ) → want_at (place_of new m) ≡ want_at (place_of old m)
     wants m = by (place_of old m) (place_of new m) (lose.each m)
       where
-        by : (o k : Option (Place D)) → PlaceLoses cells m rows o k → want_at k ≡ want_at o
+        by : (o k : Option (NodePlace D)) → PlaceLoses cells m rows o k → want_at k ≡ want_at o
         by None k lost = ap want_at lost
         by (Some x) None lost = absurd lost
         by (Some x) (Some y) lost = same_want m x y lost.1
@@ -165,14 +165,14 @@ module _ {D : Type 0} (cells : D → Cells) (rows : List OpenMerge) where
     pub lost_jobs : (m : ℕ) → place_files (place_of new m) ≡ place_files (place_of old m)
     lost_jobs m = by (place_of old m) (place_of new m) (lose.each m)
       where
-        here : (x y : Place D) → (u v : Node D) → NodeLoses cells m rows u v → place_files (Some (record { node = v; held = y.held })) ≡ place_files (Some (record { node = u; held = x.held }))
+        here : (x y : NodePlace D) → (u v : Node D) → NodeLoses cells m rows u v → place_files (Some (record { node = v; held = y.held })) ≡ place_files (Some (record { node = u; held = x.held }))
         here x y (Replica r) (Replica s) ends = ap (λ (z : ReplicaParts D). job_files z.seen.0 z.job) ends.loses.others
         here x y (Replica r) (Primary q) ends = ap (λ (z : Node D). place_files (Some (record { node = z; held = y.held }))) ends
         here x y (Replica r) (Down e) ends = ap (λ (z : Node D). place_files (Some (record { node = z; held = y.held }))) ends
         here x y (Primary p) v ends = ap (λ (z : Node D). place_files (Some (record { node = z; held = y.held }))) ends
         here x y (Down d) v ends = ap (λ (z : Node D). place_files (Some (record { node = z; held = y.held }))) ends
 
-        by : (o k : Option (Place D)) → PlaceLoses cells m rows o k → place_files k ≡ place_files o
+        by : (o k : Option (NodePlace D)) → PlaceLoses cells m rows o k → place_files k ≡ place_files o
         by None k lost = ap place_files lost
         by (Some x) None lost = absurd lost
         by (Some x) (Some y) lost = here x y x.node y.node lost.1
@@ -180,7 +180,7 @@ module _ {D : Type 0} (cells : D → Cells) (rows : List OpenMerge) where
     disks : (m : ℕ) → disk_at (place_of new m) ≡ disk_at (place_of old m)
     disks m = by (place_of old m) (place_of new m) (lose.each m)
       where
-        by : (o k : Option (Place D)) → PlaceLoses cells m rows o k → disk_at k ≡ disk_at o
+        by : (o k : Option (NodePlace D)) → PlaceLoses cells m rows o k → disk_at k ≡ disk_at o
         by None k lost = ap disk_at lost
         by (Some x) None lost = absurd lost
         by (Some x) (Some y) lost = ap Some (same_disk m x.node y.node lost.1)
@@ -206,7 +206,7 @@ module _ {D : Type 0} (cells : D → Cells) (rows : List OpenMerge) where
 
 -- ---- the merges of a primary that crashed
 
-module _ {D : Type 0} (cells : D → Cells) (size : ℕ) (log : Log) (at : At) (n : NodeNo) (board now : Board) (old new : List (Option (Place D))) where
+module _ {D : Type 0} (cells : D → Cells) (size : ℕ) (log : Log) (at : At) (n : NodeNo) (board now : Board) (old new : List (Option (NodePlace D))) where
   -- at a node nothing runs any more
   none_left : (m : ℕ) (x y : Node D) → is_at (primary_of (printed log)) n.0 ≡ true → NodeShows cells (shown at (Crashed n) ∷ log) m x → RunsSent board.rows m x → NodeLoses cells m board.rows x y
       → (cut : Bool) (jobs : Out → ℕ) → NodeMerges (shown at (Crashed n) ∷ log) cut jobs now.rows m y

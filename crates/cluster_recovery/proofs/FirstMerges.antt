@@ -14,7 +14,7 @@ use Rattle.merge_tasks.specs.declared.tasks.Posted.{Posted}
 use Rattle.merge_tasks.specs.Board.{Board, IsToldTask, TasksShow}
 use Rattle.cluster_nodes.specs.declared.nodes.Node.{Node}
 use Rattle.cluster_nodes.specs.declared.nodes.Node.TheVariants.{Primary, Replica, Down}
-use Rattle.cluster_nodes.specs.declared.nodes.Place.{Place}
+use Rattle.cluster_nodes.specs.declared.nodes.NodePlace.{NodePlace}
 use Rattle.cluster_nodes.specs.Places.{place_of}
 use Rattle.cluster_nodes.specs.Outs.{jobs_like}
 use Rattle.cluster_state.specs.State.{NodeShows}
@@ -47,7 +47,7 @@ module _ {D : Type 0} (cells : D → Cells) where
   first_node jobs n (Replica r) none shows uncopied = λ k c at. let no : ◌≡◌ {A = Option Job} None (Some c) = sym (ap (copy_at k) uncopied) ∙ at in absurd (cc)
   first_node jobs n (Down d) none shows uncopied = tt
 
-  none_merges : (size : ℕ) (places : List (Option (Place D))) → ((n : ℕ) → IsNode size n → IsSomeAnd (place_of places n) (OpensPlace cells n)) → MergesStand [] false size no_tasks places
+  none_merges : (size : ℕ) (places : List (Option (NodePlace D))) → ((n : ℕ) → IsNode size n → IsSomeAnd (place_of places n) (OpensPlace cells n)) → MergesStand [] false size no_tasks places
   none_merges size places all = record {
     tasks = tasks_none size;
     fit = All-nil (λ (p : Posted). IsFitKind p.kind);
@@ -55,11 +55,11 @@ module _ {D : Type 0} (cells : D → Cells) where
     vacant = λ none. (refl, (refl, refl));
   }
     where
-      at : (o : Option (Place D)) (n : ℕ) → IsSomeAnd o (OpensPlace cells n) → IsSomeAnd o (λ z. NodeMerges [] false (λ s. jobs_like places s size) [] n z.node)
+      at : (o : Option (NodePlace D)) (n : ℕ) → IsSomeAnd o (OpensPlace cells n) → IsSomeAnd o (λ z. NodeMerges [] false (λ s. jobs_like places s size) [] n z.node)
       at None n none = absurd none
       at (Some place) n is = first_node (λ s. jobs_like places s size) n place.node (λ s. jobs_none cells places size size s (omega arith) all) is.shows.node_shows is.uncopied
 
-  pub first_merges : (log : Log) (cut : Bool) (size n : ℕ) (board : Board) (places : List (Option (Place D))) → log ≡ [] → cut ≡ false → size ≡ n → board.posted ≡ [] → board.rows ≡ [] → board.counts ≡ []
+  pub first_merges : (log : Log) (cut : Bool) (size n : ℕ) (board : Board) (places : List (Option (NodePlace D))) → log ≡ [] → cut ≡ false → size ≡ n → board.posted ≡ [] → board.rows ≡ [] → board.counts ≡ []
       → ((m : ℕ) → IsNode n m → IsSomeAnd (place_of places m) (OpensPlace cells m)) → MergesStand log cut size board places
   first_merges log cut size n board places none uncut same posted rows counts each =
       subst (λ (z : Log × (Bool × Board)). MergesStand z.0 z.1.0 size z.1.1 places) (λ i. (sym none i, (sym uncut i, record { posted = sym posted i; rows = sym rows i; counts = sym counts i })))

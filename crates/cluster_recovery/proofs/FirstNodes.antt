@@ -34,21 +34,21 @@ use Rattle.commit_steps.specs.declared.stage.CommitBook.{CommitBook}
 use Rattle.commit_steps.specs.declared.stage.Stage.{Stage}
 use Rattle.replica_opening.specs.Opening.{opening_infos, FindsPoint, number_of_last}
 use Rattle.replica_opening.specs.Opened.{IsSettledAt, IsSettledOn}
-use Rattle.replica_state.specs.declared.parts.Parts.{Parts as ReplicaParts}
+use Rattle.replica_state.specs.declared.parts.ReplicaParts.{ReplicaParts}
 use Rattle.replica_state.specs.declared.taking.NodeParts.{NodeParts}
 use Rattle.replica_state.specs.Replica.{IsWholeReplica}
 use Rattle.replica_state.specs.declared.merges.MergeCopies.{MergeCopies}
 use Rattle.replica_state.specs.Sources.{IsSourced, IsTakenApart}
 use Rattle.replica_state.specs.Starting.{IsJustOpened, SearchesJust}
-use Rattle.primary_state.specs.declared.parts.Parts.{Parts as PrimaryParts}
+use Rattle.primary_state.specs.declared.parts.PrimaryParts.{PrimaryParts}
 use Rattle.primary_state.specs.Primary.{IsPrimary, loose_of, publish_loose, primary_names}
 use Rattle.searcher_switch.specs.Appearing.{NoneAppears}
 use Rattle.primary_state.specs.Held.{IsHeld, AreUndrawn, AreNumbered}
 use Rattle.primary_state.specs.Calls.{IsOpenedOn}
 use Rattle.primary_state.proofs.Callers.{empty_numbered}
-use Rattle.cluster_nodes.specs.declared.held.Held.{Held}
+use Rattle.cluster_nodes.specs.declared.held.HeldTicket.{HeldTicket}
 use Rattle.cluster_nodes.specs.declared.nodes.Node.TheVariants.{Primary, Replica, Down}
-use Rattle.cluster_nodes.specs.declared.nodes.Place.{Place}
+use Rattle.cluster_nodes.specs.declared.nodes.NodePlace.{NodePlace}
 use Rattle.cluster_nodes.specs.Places.{place_of, unwrapped, disk_at}
 use Rattle.cluster_state.specs.Names.{AreNamesShown, NamesShow}
 use Rattle.cluster_state.proofs.Frames.{some_then}
@@ -156,7 +156,7 @@ module _ {D : Type 0} (cells : D → Cells) where
   }
 
   -- it is the replica of a number above 1
-  pub first_replica : (n : ℕ) (r : ReplicaParts D) (held : Vec Held Global) → n ≢ 1 → held.items ≡ [] → IsOpening cells r → PlaceShows cells [] n (record { node = Replica r; held = held })
+  pub first_replica : (n : ℕ) (r : ReplicaParts D) (held : Vec HeldTicket Global) → n ≢ 1 → held.items ≡ [] → IsOpening cells r → PlaceShows cells [] n (record { node = Replica r; held = held })
   first_replica n r held other none is = record {
     node_shows = record {
       running = refl;
@@ -166,7 +166,7 @@ module _ {D : Type 0} (cells : D → Cells) where
       point = opening_point r is;
       seen = let same : r.seen.0 ≡ 1 = ap (λ (g : Gen). g.0) is.seen ∙ ap (λ (i : Infos). i.generation.0) is.infos in omega (arith, same);
     };
-    tickets = subst (λ (rows : List Held). HoldsTickets [] n r.searchers.tickets rows) (sym none) (nothing_held n r.searchers.tickets);
+    tickets = subst (λ (rows : List HeldTicket). HoldsTickets [] n r.searchers.tickets rows) (sym none) (nothing_held n r.searchers.tickets);
   }
 
   -- the opening point, where nothing has happened
@@ -307,18 +307,18 @@ module _ {D : Type 0} (cells : D → Cells) where
     dir = tt;
   }
 
-  pub first_place : (p : PrimaryParts D) (held : Vec Held Global) → held.items ≡ [] → PrimaryShows cells [] 1 p → PlaceShows cells [] 1 (record { node = Primary p; held = held })
+  pub first_place : (p : PrimaryParts D) (held : Vec HeldTicket Global) → held.items ≡ [] → PrimaryShows cells [] 1 p → PlaceShows cells [] 1 (record { node = Primary p; held = held })
   first_place p held none shows = record {
     node_shows = shows;
-    tickets = subst (λ (rows : List Held). HoldsTickets [] 1 p.searchers.tickets rows) (sym none) (nothing_held 1 p.searchers.tickets);
+    tickets = subst (λ (rows : List HeldTicket). HoldsTickets [] 1 p.searchers.tickets rows) (sym none) (nothing_held 1 p.searchers.tickets);
   }
 
-  pub opens_primary : (n : ℕ) (p : PrimaryParts D) (held : Vec Held Global) (x : Node D) → n ≡ 1 → x ≡ Primary p → held.items ≡ [] → PrimaryShows cells [] 1 p → PrimaryFiles (λ q. None) cells [] (λ s. 0) p
+  pub opens_primary : (n : ℕ) (p : PrimaryParts D) (held : Vec HeldTicket Global) (x : Node D) → n ≡ 1 → x ≡ Primary p → held.items ≡ [] → PrimaryShows cells [] 1 p → PrimaryFiles (λ q. None) cells [] (λ s. 0) p
       → NamesShow cells [] (Primary p) → IsUncommitted p.commits → OpensPlace cells n (record { node = x; held = held })
   opens_primary n p held x one is none shows files named commits =
       subst (λ (y : ℕ × Node D). OpensPlace cells y.0 (record { node = y.1; held = held })) (λ i. (sym one i, sym is i)) (record { shows = first_place p held none shows; files = files; named = named; disk = no_commits 1 p.commits commits; idle = refl; uncopied = refl })
 
-  pub opens_replica : (n : ℕ) (r : ReplicaParts D) (held : Vec Held Global) (x : Node D) → n ≢ 1 → x ≡ Replica r → held.items ≡ [] → IsOpening cells r → OpensPlace cells n (record { node = x; held = held })
+  pub opens_replica : (n : ℕ) (r : ReplicaParts D) (held : Vec HeldTicket Global) (x : Node D) → n ≢ 1 → x ≡ Replica r → held.items ≡ [] → IsOpening cells r → OpensPlace cells n (record { node = x; held = held })
   opens_replica n r held x other is none opening =
       subst (λ (y : Node D). OpensPlace cells n (record { node = y; held = held })) (sym is)
       (record { shows = first_replica n r held other none opening; files = replica_files n r opening; named = opening_names r opening; disk = no_commits n r.commits opening.commits; idle = ap want_of opening.job; uncopied = opening.copies })
@@ -326,9 +326,9 @@ module _ {D : Type 0} (cells : D → Cells) where
   -- ---- all of them
 
   -- one more node at the end
-  pub place_more : (P : ℕ → Place D → Type 0) (places new : List (Option (Place D))) (x : Place D) → new ≡ places ++ Some x ∷ [] → ((n : ℕ) → IsNode (length places) n → IsSomeAnd (place_of places n) (P n))
+  pub place_more : (P : ℕ → NodePlace D → Type 0) (places new : List (Option (NodePlace D))) (x : NodePlace D) → new ≡ places ++ Some x ∷ [] → ((n : ℕ) → IsNode (length places) n → IsSomeAnd (place_of places n) (P n))
       → P (length places + 1) x → (n : ℕ) → IsNode (length new) n → IsSomeAnd (place_of new n) (P n)
-  place_more P places new x is was mine n node = subst (λ (l : List (Option (Place D))). IsNode (length l) n → IsSomeAnd (place_of l n) (P n)) (sym is) (λ node. more n node) node
+  place_more P places new x is was mine n node = subst (λ (l : List (Option (NodePlace D))). IsNode (length l) n → IsSomeAnd (place_of l n) (P n)) (sym is) (λ node. more n node) node
     where
       more : (n : ℕ) → IsNode (length (places ++ Some x ∷ [])) n → IsSomeAnd (place_of (places ++ Some x ∷ []) n) (P n)
       more zero node = absurd (let f = node.0 in omega arith)
@@ -336,24 +336,24 @@ module _ {D : Type 0} (cells : D → Cells) where
           elim (eqb_tells k (length places)) [
             | inl here ↦
                 let mine' : P (suc k) x = subst (λ (j : ℕ). P j x) (let h = here.1 in omega (arith, h)) mine in
-                subst (λ (o : Option (Place D)). IsSomeAnd o (P (suc k))) (sym (ap unwrapped (ap (slice_get (places ++ Some x ∷ [])) here.1 ∙ slice_get-push places (Some x)))) mine'
+                subst (λ (o : Option (NodePlace D)). IsSomeAnd o (P (suc k))) (sym (ap unwrapped (ap (slice_get (places ++ Some x ∷ [])) here.1 ∙ slice_get-push places (Some x)))) mine'
             | inr other ↦
                 let l : suc k ≤ length (places ++ Some x ∷ []) = node.1 in
                 let within : k < length places = let d = other.1 in omega (arith, l, d, length-append places (Some x ∷ [])) in
-                subst (λ (o : Option (Place D)). IsSomeAnd o (P (suc k))) (sym (ap unwrapped (slice_get_before places (Some x ∷ []) k within))) (was (suc k) (omega arith, omega (arith, within)))
+                subst (λ (o : Option (NodePlace D)). IsSomeAnd o (P (suc k))) (sym (ap unwrapped (slice_get_before places (Some x ∷ []) k within))) (was (suc k) (omega arith, omega (arith, within)))
           ]
 
   -- no node of the first ones has a job
-  pub jobs_none : (places : List (Option (Place D))) (size k : ℕ) (s : Out) → k ≤ size → ((n : ℕ) → IsNode size n → IsSomeAnd (place_of places n) (OpensPlace cells n)) → jobs_like places s k ≡ 0
+  pub jobs_none : (places : List (Option (NodePlace D))) (size k : ℕ) (s : Out) → k ≤ size → ((n : ℕ) → IsNode size n → IsSomeAnd (place_of places n) (OpensPlace cells n)) → jobs_like places s k ≡ 0
   jobs_none places size zero s low each = refl
   jobs_none places size (suc k) s low each = λ i. jobs_none places size k s (omega (arith, low)) each i + one_like s (idle (place_of places (suc k)) (each (suc k) (omega arith, low)) i)
     where
-      idle : (o : Option (Place D)) → IsSomeAnd o (OpensPlace cells (suc k)) → want_at o ≡ None
+      idle : (o : Option (NodePlace D)) → IsSomeAnd o (OpensPlace cells (suc k)) → want_at o ≡ None
       idle None is = absurd is
       idle (Some place) is = is.idle
 
   -- the files of all nodes are as at a source where nothing stands
-  pub first_sources : (log : Log) (size : ℕ) (places : List (Option (Place D))) → log ≡ [] → ((n : ℕ) → IsNode size n → IsSomeAnd (place_of places n) (OpensPlace cells n)) → FilesShow cells log size places
+  pub first_sources : (log : Log) (size : ℕ) (places : List (Option (NodePlace D))) → log ≡ [] → ((n : ℕ) → IsNode size n → IsSomeAnd (place_of places n) (OpensPlace cells n)) → FilesShow cells log size places
   first_sources log size places none each = subst (λ (l : Log). FilesShow cells l size places) (sym none) (record {
     source = λ q. None;
     drawn = record { drawn = λ q bytes lasting is. absurd (nothing_means bytes is); live = λ r live_gen bytes small fits is. absurd (nothing_means bytes is) };
@@ -366,7 +366,7 @@ module _ {D : Type 0} (cells : D → Cells) where
       nothing_means : (bytes : List ℕ) → ◌≡◌ {A = Option (List ℕ)} None (Some bytes) → ⊥
       nothing_means bytes same = absurd (cc)
 
-      disk : (o : Option (Place D)) (n : ℕ) → IsSomeAnd o (OpensPlace cells n) → IsSomeAnd (disk_at o) (DiskShows (λ q. None) cells [] n)
+      disk : (o : Option (NodePlace D)) (n : ℕ) → IsSomeAnd o (OpensPlace cells n) → IsSomeAnd (disk_at o) (DiskShows (λ q. None) cells [] n)
       disk None n is = absurd is
       disk (Some place) n is = is.disk
 
@@ -381,11 +381,11 @@ module _ {D : Type 0} (cells : D → Cells) where
       node_files n (Replica r) files = files
       node_files n (Down d) files = files
 
-      at : (o : Option (Place D)) (n : ℕ) → IsSomeAnd o (OpensPlace cells n) → IsSomeAnd o (λ place. NodeFiles (λ q. None) cells [] (λ s. jobs_like places s size) n place.node)
+      at : (o : Option (NodePlace D)) (n : ℕ) → IsSomeAnd o (OpensPlace cells n) → IsSomeAnd o (λ place. NodeFiles (λ q. None) cells [] (λ s. jobs_like places s size) n place.node)
       at None n is = absurd is
       at (Some place) n is = node_files n place.node is.files
 
   -- each is in its place
-  pub first_shows : (log : Log) (size : ℕ) (places : List (Option (Place D))) → log ≡ [] → 1 ≤ size → length places ≡ size
+  pub first_shows : (log : Log) (size : ℕ) (places : List (Option (NodePlace D))) → log ≡ [] → 1 ≤ size → length places ≡ size
       → ((n : ℕ) → IsNode size n → IsSomeAnd (place_of places n) (PlaceShows cells [] n)) → Shows cells log size places
   first_shows log size places none some count each = subst (λ (l : Log). Shows cells l size places) (sym none) (record { some = some; count = count; each = each; handed = λ at is. refl })

@@ -9,7 +9,7 @@ use Rattle.std.specs.declared.vec.IntoIter.{IntoIter}
 use Rattle.disk_model.specs.Disk.{Cells}
 use Rattle.history_rules.specs.Nodes.{IsNode}
 use Rattle.history_book.specs.Log.{Log}
-use Rattle.cluster_nodes.specs.declared.nodes.Place.{Place}
+use Rattle.cluster_nodes.specs.declared.nodes.NodePlace.{NodePlace}
 use Rattle.cluster_nodes.specs.Places.{place_of}
 use Rattle.cluster_state.specs.State.{PlaceShows, Shows}
 use Rattle.cluster_state.specs.Files.{FilesShow}
@@ -32,22 +32,22 @@ given_has P items s t u done x is given next all =
     all_there P done x (into_iter_items u) (subst (All P) (sym is ∙ (taken_front s done t given ∙ ap (λ ys. done ++ ys) next)) all)
 
 module _ {D : Type 0} (cells : D → Cells) where
-  pub more_count : {X : Type 0} (places new : List (Option (Place D))) (done : List X) (d : X) (x : Place D) → new ≡ places ++ Some x ∷ [] → length places ≡ length done → length new ≡ length (done ++ d ∷ [])
+  pub more_count : {X : Type 0} (places new : List (Option (NodePlace D))) (done : List X) (d : X) (x : NodePlace D) → new ≡ places ++ Some x ∷ [] → length places ≡ length done → length new ≡ length (done ++ d ∷ [])
   more_count places new done d x is count =
       ap length is ∙ (length-append places (Some x ∷ []) ∙ (ap (λ (k : ℕ). k + 1) count ∙ sym (length-append done (d ∷ []))))
 
-  pub more_each : {X : Type 0} (places new : List (Option (Place D))) (done : List X) (d : X) (x : Place D) (k : ℕ) → new ≡ places ++ Some x ∷ [] → length places ≡ length done
+  pub more_each : {X : Type 0} (places new : List (Option (NodePlace D))) (done : List X) (d : X) (x : NodePlace D) (k : ℕ) → new ≡ places ++ Some x ∷ [] → length places ≡ length done
       → ((n : ℕ) → IsNode (length done) n → IsSomeAnd (place_of places n) (OpensPlace cells n)) → OpensPlace cells k x → k ≡ length places + 1
       → (n : ℕ) → IsNode (length (done ++ d ∷ [])) n → IsSomeAnd (place_of new n) (OpensPlace cells n)
   more_each places new done d x k is count was mine number n node =
       place_more cells (OpensPlace cells) places new x is (λ m there. was m (subst (λ (j : ℕ). IsNode j m) count there)) (subst (λ (j : ℕ). OpensPlace cells j x) number mine) n
       (subst (λ (j : ℕ). IsNode j n) (sym (more_count places new done d x is count)) node)
 
-  shown : (n : ℕ) (o : Option (Place D)) → IsSomeAnd o (OpensPlace cells n) → IsSomeAnd o (PlaceShows cells [] n)
+  shown : (n : ℕ) (o : Option (NodePlace D)) → IsSomeAnd o (OpensPlace cells n) → IsSomeAnd o (PlaceShows cells [] n)
   shown n None is = is
   shown n (Some place) is = is.shows
 
-  pub first_state : (log : Log) (size n : ℕ) (places : List (Option (Place D))) → log ≡ [] → size ≡ n → 1 ≤ n → length places ≡ n
+  pub first_state : (log : Log) (size n : ℕ) (places : List (Option (NodePlace D))) → log ≡ [] → size ≡ n → 1 ≤ n → length places ≡ n
       → ((m : ℕ) → IsNode n m → IsSomeAnd (place_of places m) (OpensPlace cells m)) → Shows cells log size places × FilesShow cells log size places
   first_state log size n places none same some count each =
       let all : (m : ℕ) → IsNode size m → IsSomeAnd (place_of places m) (OpensPlace cells m) = λ m node. each m (subst (λ (j : ℕ). IsNode j m) same node) in

@@ -6,18 +6,18 @@ use Rattle.std.proofs.lemmas.Bool.{eqb-true}
 use Rattle.nrt_base.specs.declared.numbers.Gen.{Gen}
 use Rattle.nrt_base.specs.declared.numbers.NodeNo.{NodeNo}
 use Rattle.disk_model.specs.Disk.{Cells}
-use Rattle.primary_state.specs.declared.parts.Parts.{Parts as PrimaryParts}
+use Rattle.primary_state.specs.declared.parts.PrimaryParts.{PrimaryParts}
 use Rattle.primary_state.specs.declared.states.Out.{Out}
 use Rattle.replica_state.specs.declared.job.PointJob.{PointJob}
-use Rattle.replica_state.specs.declared.parts.Parts.{Parts as ReplicaParts}
+use Rattle.replica_state.specs.declared.parts.ReplicaParts.{ReplicaParts}
 use Rattle.replica_state.specs.Jobs.{stopped_job}
 use Rattle.history_rules.specs.Nodes.{Past, IsNode, is_at}
 use Rattle.history_tables.proofs.RowLemmas.{by_test}
 use Rattle.history_book.specs.Log.{Log}
-use Rattle.cluster_nodes.specs.declared.held.Held.{Held}
+use Rattle.cluster_nodes.specs.declared.held.HeldTicket.{HeldTicket}
 use Rattle.cluster_nodes.specs.declared.nodes.Node.{Node}
 use Rattle.cluster_nodes.specs.declared.nodes.Node.TheVariants.{Primary, Replica, Down}
-use Rattle.cluster_nodes.specs.declared.nodes.Place.{Place}
+use Rattle.cluster_nodes.specs.declared.nodes.NodePlace.{NodePlace}
 use Rattle.cluster_nodes.specs.Places.{place_of, disk_of}
 use Rattle.cluster_nodes.specs.Outs.{want_of, want_at}
 use Rattle.cluster_state.proofs.FileJobs.{stopped_want}
@@ -35,7 +35,7 @@ use Rattle.cluster_state.proofs.JobMoves.{primary_place, replica_place}
 module _ {D : Type 0} (cells : D → Cells) where
   -- ---- what a node is
 
-  node_outlives : (log : Log) (m : ℕ) (crashed this : Bool) (state : Option Out) (x y : Node D) (held : Vec Held Global) → NodeOutlives cells crashed this state x y
+  node_outlives : (log : Log) (m : ℕ) (crashed this : Bool) (state : Option Out) (x y : Node D) (held : Vec HeldTicket Global) → NodeOutlives cells crashed this state x y
       → PlaceShows cells log m (record { node = x; held = held }) → PlaceShows cells log m (record { node = y; held = held })
   node_outlives log m true this state (Replica r) (Replica s) held out was =
       let same : s.seen.0 ≡ r.seen.0 = ap (λ (g : Gen). g.0) out.seen in
@@ -52,9 +52,9 @@ module _ {D : Type 0} (cells : D → Cells) where
   node_outlives log m false true state (Down d) y held out was = absurd out
   node_outlives log m false false state x y held out was = subst (λ (z : Node D). PlaceShows cells log m (record { node = z; held = held })) (sym out) was
 
-  pub place_outlives : (log : Log) (m : ℕ) (crashed this : Bool) (state : Option Out) (x y : Place D) → Outlives cells crashed this state x y → PlaceShows cells log m x → PlaceShows cells log m y
+  pub place_outlives : (log : Log) (m : ℕ) (crashed this : Bool) (state : Option Out) (x y : NodePlace D) → Outlives cells crashed this state x y → PlaceShows cells log m x → PlaceShows cells log m y
   place_outlives log m crashed this state x y out was =
-      node_outlives log m crashed this state x.node y.node y.held out.node (subst (λ (h : Vec Held Global). PlaceShows cells log m (record { node = x.node; held = h })) (sym out.held) was)
+      node_outlives log m crashed this state x.node y.node y.held out.node (subst (λ (h : Vec HeldTicket Global). PlaceShows cells log m (record { node = x.node; held = h })) (sym out.held) was)
 
   -- ---- its commits and its names
 
@@ -86,14 +86,14 @@ module _ {D : Type 0} (cells : D → Cells) where
 
   -- ---- its job
 
-  want_ends : (this : Bool) (state : Option Out) (x y : Node D) (held : Vec Held Global) → NodeOutlives cells true this state x y → want_at (Some (record { node = y; held = held })) ≡ None
+  want_ends : (this : Bool) (state : Option Out) (x y : Node D) (held : Vec HeldTicket Global) → NodeOutlives cells true this state x y → want_at (Some (record { node = y; held = held })) ≡ None
   want_ends this state (Replica r) (Replica s) held out = ap want_of out.stops ∙ stopped_want r.job
   want_ends this state (Replica r) (Primary q) held out = refl
   want_ends this state (Replica r) (Down e) held out = refl
   want_ends this state (Primary p) y held out = ap (λ (z : Node D). want_at (Some (record { node = z; held = held }))) out
   want_ends this state (Down d) y held out = ap (λ (z : Node D). want_at (Some (record { node = z; held = held }))) out
 
-  want_stays : (this : Bool) (state : Option Out) (x y : Node D) (one two : Vec Held Global) → NodeOutlives cells false this state x y → want_at (Some (record { node = y; held = two })) ≡ want_at (Some (record { node = x; held = one }))
+  want_stays : (this : Bool) (state : Option Out) (x y : Node D) (one two : Vec HeldTicket Global) → NodeOutlives cells false this state x y → want_at (Some (record { node = y; held = two })) ≡ want_at (Some (record { node = x; held = one }))
   want_stays true state (Primary p) (Primary q) one two out = refl
   want_stays true state (Primary p) (Replica s) one two out = absurd out
   want_stays true state (Primary p) (Down e) one two out = absurd out
@@ -102,36 +102,36 @@ module _ {D : Type 0} (cells : D → Cells) where
   want_stays false state x y one two out = ap (λ (z : Node D). want_at (Some (record { node = z; held = two }))) out
 
   -- no job is left where the primary crashed
-  pub wants_end : (this : Bool) (state : Option Out) (o new : Option (Place D)) → PlaceOutlives cells true this state o new → want_at new ≡ None
+  pub wants_end : (this : Bool) (state : Option Out) (o new : Option (NodePlace D)) → PlaceOutlives cells true this state o new → want_at new ≡ None
   wants_end this state None new is = ap want_at is
   wants_end this state (Some x) None is = absurd is
   wants_end this state (Some x) (Some y) is = want_ends this state x.node y.node y.held is.node
 
   -- each has its job where another crashed
-  pub wants_stay : (this : Bool) (state : Option Out) (o new : Option (Place D)) → PlaceOutlives cells false this state o new → want_at new ≡ want_at o
+  pub wants_stay : (this : Bool) (state : Option Out) (o new : Option (NodePlace D)) → PlaceOutlives cells false this state o new → want_at new ≡ want_at o
   wants_stay this state None new is = ap want_at is
   wants_stay this state (Some x) None is = absurd is
   wants_stay this state (Some x) (Some y) is = want_stays this state x.node y.node x.held y.held is.node
 
   -- ---- all of them
 
-  pub each_outlives : {P Q : ℕ → Place D → Type 0} (size : ℕ) (primary : Option NodeNo) (n : ℕ) (left : Place D) (old new : List (Option (Place D))) → place_of new n ≡ Some left → OthersOutlive cells primary n old new
+  pub each_outlives : {P Q : ℕ → NodePlace D → Type 0} (size : ℕ) (primary : Option NodeNo) (n : ℕ) (left : NodePlace D) (old new : List (Option (NodePlace D))) → place_of new n ≡ Some left → OthersOutlive cells primary n old new
       → ((m : ℕ) → IsNode size m → IsSomeAnd (place_of old m) (P m))
-      → ((m : ℕ) (x y : Place D) → IsNode size m → (n == m) ≡ false → Outlives cells (is_at primary n) (is_at primary m) (want_at (place_of old n)) x y → P m x → Q m y)
+      → ((m : ℕ) (x y : NodePlace D) → IsNode size m → (n == m) ≡ false → Outlives cells (is_at primary n) (is_at primary m) (want_at (place_of old n)) x y → P m x → Q m y)
       → Q n left → (m : ℕ) → IsNode size m → IsSomeAnd (place_of new m) (Q m)
   each_outlives {P = P} {Q = Q} size primary n left old new here others was step mine m node =
       by_test (n == m) (λ b. (n == m) ≡ b → IsSomeAnd (place_of new m) (Q m))
-      (λ same q. subst (λ (k : ℕ). IsSomeAnd (place_of new k) (Q k)) (eqb-true n m same) (subst (λ (o : Option (Place D)). IsSomeAnd o (Q n)) (sym here) mine))
+      (λ same q. subst (λ (k : ℕ). IsSomeAnd (place_of new k) (Q k)) (eqb-true n m same) (subst (λ (o : Option (NodePlace D)). IsSomeAnd o (Q n)) (sym here) mine))
       (λ apart q. found (place_of old m) apart (was m node) (others m apart))
       refl
     where
-      found : (o : Option (Place D)) → (n == m) ≡ false → IsSomeAnd o (P m) → PlaceOutlives cells (is_at primary n) (is_at primary m) (want_at (place_of old n)) o (place_of new m) → IsSomeAnd (place_of new m) (Q m)
+      found : (o : Option (NodePlace D)) → (n == m) ≡ false → IsSomeAnd o (P m) → PlaceOutlives cells (is_at primary n) (is_at primary m) (want_at (place_of old n)) o (place_of new m) → IsSomeAnd (place_of new m) (Q m)
       found None apart has out = absurd has
       found (Some x) apart has out = some_then (place_of new m) out (λ y lives. step m x y node apart lives has)
 
   -- ---- what is seen of jobs
 
-  files_outlive : (crashed this : Bool) (state : Option Out) (x y : Place D) → NodeOutlives cells crashed this state x.node y.node → place_files (Some y) ≡ place_files (Some x)
+  files_outlive : (crashed this : Bool) (state : Option Out) (x y : NodePlace D) → NodeOutlives cells crashed this state x.node y.node → place_files (Some y) ≡ place_files (Some x)
   files_outlive crashed this state x y = by crashed this x.node y.node
     where
       seen : Node D → JobFiles
@@ -158,7 +158,7 @@ module _ {D : Type 0} (cells : D → Cells) where
       by false false u v out = ap seen out
 
   -- what another node's job lacks and has is as before
-  pub jobs_outlive : (crashed this : Bool) (state : Option Out) (o new : Option (Place D)) → PlaceOutlives cells crashed this state o new → place_files new ≡ place_files o
+  pub jobs_outlive : (crashed this : Bool) (state : Option Out) (o new : Option (NodePlace D)) → PlaceOutlives cells crashed this state o new → place_files new ≡ place_files o
   jobs_outlive crashed this state None new is = ap place_files is
   jobs_outlive crashed this state (Some x) None is = absurd is
   jobs_outlive crashed this state (Some x) (Some y) is = files_outlive crashed this state x y is.node

@@ -10,7 +10,7 @@ use Rattle.history_rules.specs.Nodes.{IsNode, primary_of}
 use Rattle.history_book.specs.Log.{Log, printed, shown}
 use Rattle.merge_tasks.specs.Merging.{Sheet}
 use Rattle.merge_tasks.specs.Board.{Board}
-use Rattle.cluster_nodes.specs.declared.nodes.Place.{Place}
+use Rattle.cluster_nodes.specs.declared.nodes.NodePlace.{NodePlace}
 use Rattle.cluster_nodes.specs.Promoting.{PromotesIn}
 use Rattle.cluster_state.specs.Run.{Run, Rest}
 use Rattle.cluster_state.specs.State.{Shows}
@@ -20,7 +20,7 @@ use Rattle.cluster_state.proofs.Ledgers.{asked_of, asked_size}
 use Rattle.cluster_state.proofs.MergingPaths.{stand_promoted}
 
 module _ {D : Type 0} (cells : D → Cells) where
-  pub promoted_stands : (board : Board) (r : Run) (ended : Bool) (b0 b1 b2 : Sheet) (old new : List (Option (Place D))) (n : NodeNo) (at : At) (generation : Gen) (forced v : Version) {rest : Rest} → record { ended = ended; nodes = b0.nodes; log = b0.log; rest = rest } ≡ r
+  pub promoted_stands : (board : Board) (r : Run) (ended : Bool) (b0 b1 b2 : Sheet) (old new : List (Option (NodePlace D))) (n : NodeNo) (at : At) (generation : Gen) (forced v : Version) {rest : Rest} → record { ended = ended; nodes = b0.nodes; log = b0.log; rest = rest } ≡ r
       → r.ended ≡ false → (ended ≡ false → Shows cells b0.log b0.nodes old) → b1.log ≡ b0.log → b1.nodes ≡ b0.nodes → b1.cut ≡ b0.cut → b2.log ≡ shown at (Promoted n generation forced v) ∷ b1.log → b2.nodes ≡ b1.nodes → b2.cut ≡ b1.cut
       → IsNode r.nodes n.0 → primary_of (printed r.log) ≡ None → PromotesIn cells generation forced n.0 old new → FilesShow cells b2.log b2.nodes new → MergesStand b0.log b0.cut b0.nodes board old → MergesStand b2.log b2.cut b2.nodes board new
   promoted_stands board r ended b0 b1 b2 old new n at generation forced v view running shows e1 n1 c1 e2 n2 c2 node vacant promotes files was =

@@ -15,11 +15,11 @@ use Rattle.segment_infos.specs.declared.infos.Infos.{Infos}
 use Rattle.seg_reader.specs.Shown.{Shown}
 use Rattle.seg_reader.specs.Stands.{StandsFor, AreSegmentsOf}
 use Rattle.searcher_switch.specs.declared.open.Open.{Open}
-use Rattle.searcher_switch.specs.declared.open.Point.{Point}
+use Rattle.searcher_switch.specs.declared.open.SearchPoint.{SearchPoint}
 use Rattle.searcher_switch.specs.declared.searchers.Searchers.{Searchers}
 use Rattle.commit_steps.specs.declared.stage.CommitBook.{CommitBook}
 use Rattle.searcher_switch.proofs.Appearing.{only_none}
-use Rattle.primary_state.specs.declared.parts.Parts.{Parts as PrimaryParts}
+use Rattle.primary_state.specs.declared.parts.PrimaryParts.{PrimaryParts}
 use Rattle.primary_state.specs.declared.parts.Publish.{Publish}
 use Rattle.primary_state.specs.declared.states.Out.{Out}
 use Rattle.primary_state.specs.declared.states.Merging.{Merging}
@@ -27,7 +27,7 @@ use Rattle.primary_state.specs.Merges.{merge_loose, merge_filled}
 use Rattle.primary_state.specs.Primary.{loose_of, publish_loose, filled_of}
 use Rattle.primary_state.specs.Held.{IsUndrawn}
 use Rattle.replica_state.specs.declared.job.PointJob.{PointJob}
-use Rattle.replica_state.specs.declared.parts.Parts.{Parts as ReplicaParts}
+use Rattle.replica_state.specs.declared.parts.ReplicaParts.{ReplicaParts}
 use Rattle.replica_state.specs.Replica.{replica_names}
 use Rattle.promotion.specs.Generations.{promoted_infos}
 use Rattle.history_rules.specs.declared.entry.Event.{Event}
@@ -48,10 +48,10 @@ use Rattle.history_book.specs.Jobs.{last_job, job_at}
 use Rattle.history_book.specs.Turns.{AreInTurn}
 use Rattle.history_book.proofs.LineLaws.{flying}
 use Rattle.script_serving.specs.Refusals.{put_publishes}
-use Rattle.cluster_nodes.specs.declared.held.Held.{Held}
+use Rattle.cluster_nodes.specs.declared.held.HeldTicket.{HeldTicket}
 use Rattle.cluster_nodes.specs.declared.nodes.Node.{Node}
 use Rattle.cluster_nodes.specs.declared.nodes.Node.TheVariants.{Primary, Replica, Down}
-use Rattle.cluster_nodes.specs.declared.nodes.Place.{Place}
+use Rattle.cluster_nodes.specs.declared.nodes.NodePlace.{NodePlace}
 use Rattle.cluster_nodes.specs.Places.{place_of}
 use Rattle.cluster_nodes.specs.Outs.{want_of, want_at, jobs_like}
 use Rattle.cluster_nodes.specs.JobChanges.{HasReplica}
@@ -108,18 +108,18 @@ module _ {D : Type 0} (cells : D → Cells) where
   -- ---- before it
 
   -- what `promote_in` asks for
-  pub can_promote : (size : ℕ) (log : Log) (places : List (Option (Place D))) (n : NodeNo) (g : Gen) (forced : Version) → IsLegalPast size (printed log) → Shows cells log size places → FilesShow cells log size places → IsNode size n.0
+  pub can_promote : (size : ℕ) (log : Log) (places : List (Option (NodePlace D))) (n : NodeNo) (g : Gen) (forced : Version) → IsLegalPast size (printed log) → Shows cells log size places → FilesShow cells log size places → IsNode size n.0
       → is_running n.0 (printed log) ≡ true → primary_of (printed log) ≡ None → g.0 ≡ generation_of (printed log) + 1 → g.0 < 2 ^ 31 → forced.0 < 2 ^ 62 → newest_version (printed log) ≤ forced.0 → CanPromoteIn cells g forced n.0 places
   can_promote size log places n g forced legal shows files node up vacant next small low high = record {
     slot = here.at.slot;
-    replica = subst (λ (o : Option (Place D)). HasReplica o) (sym here.at.there) tt;
+    replica = subst (λ (o : Option (NodePlace D)). HasReplica o) (sym here.at.there) tt;
     can = λ r held there. able r (some_at (Both cells files.source log (λ s. jobs_like places s size) n.0) (place_of places n.0) (record { node = Replica r; held = held }) there (both_of cells log size places shows files n.0 node));
   }
     where
       here : ReplicaHere cells files.source log n.0 places
       here = replica_here cells log size n.0 places shows files node (record { running = up; other = ap (λ (o : Option NodeNo). is_at o n.0) vacant })
 
-      able : {held : Vec Held Global} (r : ReplicaParts D) → Both cells files.source log (λ s. jobs_like places s size) n.0 (record { node = Replica r; held = held }) → CanPromote cells g forced r
+      able : {held : Vec HeldTicket Global} (r : ReplicaParts D) → Both cells files.source log (λ s. jobs_like places s size) n.0 (record { node = Replica r; held = held }) → CanPromote cells g forced r
       able r both =
           let point = both.1.point in
           let newer : r.infos.generation.0 < g.0 = (let old = point.generation in omega (arith, old, next)) in
@@ -136,7 +136,7 @@ module _ {D : Type 0} (cells : D → Cells) where
 
   -- ---- after it
 
-  module _ (size : ℕ) (log : Log) (old new : List (Option (Place D))) (at : At) (n : NodeNo) (g : Gen) (forced v : Version) (legal : IsLegalPast size (printed log)) (turns : AreInTurn (printed log))
+  module _ (size : ℕ) (log : Log) (old new : List (Option (NodePlace D))) (at : At) (n : NodeNo) (g : Gen) (forced v : Version) (legal : IsLegalPast size (printed log)) (turns : AreInTurn (printed log))
       (rule : KeepsRule size (printed log) at (Promoted n g forced v)) (none : start_entry at (printed log) ≡ None) (b : PromotesIn cells g forced n.0 old new) where
     abbrev now : Log
     now = shown at (Promoted n g forced v) ∷ log
@@ -144,7 +144,7 @@ module _ {D : Type 0} (cells : D → Cells) where
     abbrev past : Past
     past = printed log
 
-    abbrev left : Place D
+    abbrev left : NodePlace D
     left = record { node = Primary b.primary; held = b.at.held }
 
     -- ---- the past
@@ -168,7 +168,7 @@ module _ {D : Type 0} (cells : D → Cells) where
     documents_now : documents_at (printed now) (forced.0 + 1) ≡ documents_at past (version_of n.0 past)
     documents_now = ap (λ (t : Bool). documents_after (if t then operations_at past (version_of n.0 past) else operations_at past (forced.0 + 1))) (eq-eqb v.0 (forced.0 + 1) rule.above)
 
-    same_others : (m : ℕ) (z : Place D) → (n.0 == m) ≡ false → PlaceShows cells log m z → PlaceShows cells now m z
+    same_others : (m : ℕ) (z : NodePlace D) → (n.0 == m) ≡ false → PlaceShows cells log m z → PlaceShows cells now m z
     same_others m z apart has = place_same cells log now m z (same size m past at (Promoted n g forced v) legal turns rule (λ here. not_flying size past at legal turns not_publishing) apart)
         (fewer past at (Promoted n g forced v) m refl) (λ a h is. is) has
 
@@ -239,7 +239,7 @@ module _ {D : Type 0} (cells : D → Cells) where
         idle_job : (m : ℕ) (r : ReplicaParts D) → ReplicaFiles files.source cells log m r → JobShows files.source log m None r.job
         idle_job m r was = subst (λ (o : Option Job). JobShows files.source log m o r.job) (idle m rule.vacant) was.job
 
-        no_want : (m : ℕ) (z : Place D) → Both cells files.source log (λ s. jobs_like old s size) m z → want_at (Some z) ≡ None
+        no_want : (m : ℕ) (z : NodePlace D) → Both cells files.source log (λ s. jobs_like old s size) m z → want_at (Some z) ≡ None
         no_want m z has = kind z.node has.0.node_shows has.1
           where
             kind : (x : Node D) → NodeShows cells log m x → NodeFiles files.source cells log (λ s. jobs_like old s size) m x → want_at (Some (record { node = x; held = z.held })) ≡ None
@@ -253,7 +253,7 @@ module _ {D : Type 0} (cells : D → Cells) where
             each_want : (m : ℕ) → IsNode size m → IsSomeAnd (place_of new m) (λ z. want_at (Some z) ≡ None)
             each_want = one_each {P = Both cells files.source log (λ s. jobs_like old s size)} {Q = λ m z. want_at (Some z) ≡ None} size n.0 left old new b.moves (both_of cells log size old shows files) (λ m z here apart has. no_want m z has) refl
 
-            found : (o : Option (Place D)) → IsSomeAnd o (λ z. want_at (Some z) ≡ None) → want_at o ≡ None
+            found : (o : Option (NodePlace D)) → IsSomeAnd o (λ z. want_at (Some z) ≡ None) → want_at o ≡ None
             found None is = absurd is
             found (Some z) is = is
 
@@ -353,7 +353,7 @@ module _ {D : Type 0} (cells : D → Cells) where
     above = above;
   }
 
-  pub can_path : (r : Run) (ended : Bool) (b0 : Sheet) (places : List (Option (Place D))) (n : NodeNo) (g : Gen) (forced : Version) (last : ℕ) → {left : Rest} → record { ended = ended; nodes = b0.nodes; log = b0.log; rest = left } ≡ r → r.ended ≡ false
+  pub can_path : (r : Run) (ended : Bool) (b0 : Sheet) (places : List (Option (NodePlace D))) (n : NodeNo) (g : Gen) (forced : Version) (last : ℕ) → {left : Rest} → record { ended = ended; nodes = b0.nodes; log = b0.log; rest = left } ≡ r → r.ended ≡ false
       → (ended ≡ false → Shows cells b0.log b0.nodes places × FilesShow cells b0.log b0.nodes places) → IsLegalPast b0.nodes (printed b0.log) → IsNode r.nodes n.0 → is_running n.0 (printed r.log) ≡ true → primary_of (printed r.log) ≡ None
       → last ≡ generation_of (printed r.log) → g.0 ≡ last + 1 → g.0 < 2 ^ 31 → forced.0 < 2 ^ 62 → newest_version (printed r.log) ≤ forced.0 → CanPromoteIn cells g forced n.0 places
   can_path r ended b0 places n g forced last view running pair legal node up vacant is next small low high =
@@ -361,7 +361,7 @@ module _ {D : Type 0} (cells : D → Cells) where
       (was cells r ended b0.nodes b0.log places view running (λ e. (pair e).0)) (files_was cells r ended b0.nodes b0.log places view running (λ e. (pair e).1))
       node up vacant (omega (arith, is, next)) small low high
 
-  pub promote_path : (r : Run) (ended : Bool) (b0 b1 b2 : Sheet) (old new : List (Option (Place D))) (at : At) (n : NodeNo) (g : Gen) (forced v : Version) → {left : Rest} → record { ended = ended; nodes = b0.nodes; log = b0.log; rest = left } ≡ r → r.ended ≡ false
+  pub promote_path : (r : Run) (ended : Bool) (b0 b1 b2 : Sheet) (old new : List (Option (NodePlace D))) (at : At) (n : NodeNo) (g : Gen) (forced v : Version) → {left : Rest} → record { ended = ended; nodes = b0.nodes; log = b0.log; rest = left } ≡ r → r.ended ≡ false
       → (ended ≡ false → Shows cells b0.log b0.nodes old × FilesShow cells b0.log b0.nodes old) → b1.log ≡ b0.log → b1.nodes ≡ b0.nodes → b2.log ≡ shown at (Promoted n g forced v) ∷ b1.log → b2.nodes ≡ b1.nodes
       → IsLegalPast b1.nodes (printed b1.log) → AreInTurn (printed b1.log) → ((m : ℕ) → primary_of (printed b0.log) ≡ None → job_at m b0.log ≡ None) → IsFresh at (printed b0.log)
       → KeepsRule r.nodes (printed r.log) at (Promoted n g forced v) → PromotesIn cells g forced n.0 old new → Shows cells b2.log b2.nodes new × FilesShow cells b2.log b2.nodes new

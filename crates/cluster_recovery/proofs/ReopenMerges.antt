@@ -6,17 +6,17 @@ use Rattle.nrt_base.specs.declared.numbers.Version.{Version}
 use Rattle.disk_model.specs.Disk.{Cells}
 use Rattle.primary_state.specs.declared.states.Out.{Out}
 use Rattle.replica_state.specs.declared.merges.MergeCopies.{MergeCopies}
-use Rattle.replica_state.specs.declared.parts.Parts.{Parts as ReplicaParts}
+use Rattle.replica_state.specs.declared.parts.ReplicaParts.{ReplicaParts}
 use Rattle.replica_state.specs.Merges.{no_copies}
 use Rattle.history_rules.specs.declared.entry.Event.TheVariants.{Reopened}
 use Rattle.history_rules.specs.Nodes.{IsNode, is_running}
 use Rattle.history_book.specs.Log.{Log, printed, shown}
 use Rattle.merge_tasks.specs.Merging.{Sheet}
 use Rattle.merge_tasks.specs.Board.{Board}
-use Rattle.cluster_nodes.specs.declared.held.Held.{Held}
+use Rattle.cluster_nodes.specs.declared.held.HeldTicket.{HeldTicket}
 use Rattle.cluster_nodes.specs.declared.nodes.Node.{Node}
 use Rattle.cluster_nodes.specs.declared.nodes.Node.TheVariants.{Primary, Replica, Down}
-use Rattle.cluster_nodes.specs.declared.nodes.Place.{Place}
+use Rattle.cluster_nodes.specs.declared.nodes.NodePlace.{NodePlace}
 use Rattle.cluster_nodes.specs.Places.{place_of}
 use Rattle.cluster_nodes.specs.Outs.{want_of, want_at}
 use Rattle.cluster_nodes.specs.Lives.{ReopensIn}
@@ -29,7 +29,7 @@ use Rattle.cluster_state.proofs.MergingStill.{one_keeps, stand_shown}
 
 module _ {D : Type 0} (cells : D → Cells) (log : Log) (n : ℕ) (s : ReplicaParts D) (down : is_running n (printed log) ≡ false) where
   -- neither it nor the node that was down has a job
-  reopened_want : (x : Node D) (held : Vec Held Global) → NodeShows cells log n x → s.job ≡ None → want_at (Some (record { node = Replica s; held = held })) ≡ want_at (Some (record { node = x; held = held }))
+  reopened_want : (x : Node D) (held : Vec HeldTicket Global) → NodeShows cells log n x → s.job ≡ None → want_at (Some (record { node = Replica s; held = held })) ≡ want_at (Some (record { node = x; held = held }))
   reopened_want (Primary p) held shows none = absurd (true≢false (sym shows.running ∙ down))
   reopened_want (Replica r) held shows none = absurd (true≢false (sym shows.running ∙ down))
   reopened_want (Down d) held shows none = ap want_of none
@@ -41,7 +41,7 @@ module _ {D : Type 0} (cells : D → Cells) (log : Log) (n : ℕ) (s : ReplicaPa
   reopened_runs (Down d) shows none jobs count low = ap (λ (c : MergeCopies). c.running) none
 
 module _ {D : Type 0} (cells : D → Cells) where
-  pub reopened_stands : (board : Board) (r : Run) (ended : Bool) (b0 b1 b2 : Sheet) (old new : List (Option (Place D))) (n : NodeNo) (v : Version) (at : At) {rest : Rest} → record { ended = ended; nodes = b0.nodes; log = b0.log; rest = rest } ≡ r → r.ended ≡ false
+  pub reopened_stands : (board : Board) (r : Run) (ended : Bool) (b0 b1 b2 : Sheet) (old new : List (Option (NodePlace D))) (n : NodeNo) (v : Version) (at : At) {rest : Rest} → record { ended = ended; nodes = b0.nodes; log = b0.log; rest = rest } ≡ r → r.ended ≡ false
       → (ended ≡ false → Shows cells b0.log b0.nodes old) → b1.log ≡ b0.log → b1.nodes ≡ b0.nodes → b1.cut ≡ b0.cut → b2.log ≡ shown at (Reopened n v) ∷ b1.log → b2.nodes ≡ b1.nodes → b2.cut ≡ b1.cut
       → IsNode r.nodes n.0 → is_running n.0 (printed r.log) ≡ false → ReopensIn cells n.0 v old new → MergesStand b0.log b0.cut b0.nodes board old → MergesStand b2.log b2.cut b2.nodes board new
   reopened_stands board r ended b0 b1 b2 old new n v at view running shows e1 n1 c1 e2 n2 c2 node down reopens was =

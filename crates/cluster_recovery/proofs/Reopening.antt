@@ -28,7 +28,7 @@ use Rattle.replica_opening.specs.Opening.{FindsPoint, number_of_last}
 use Rattle.replica_opening.specs.Opened.{IsSettledOn}
 use Rattle.replica_opening.proofs.Clearings.{one_found}
 use Rattle.replica_state.specs.declared.job.PointJob.{PointJob}
-use Rattle.replica_state.specs.declared.parts.Parts.{Parts as ReplicaParts}
+use Rattle.replica_state.specs.declared.parts.ReplicaParts.{ReplicaParts}
 use Rattle.replica_state.specs.Starting.{SearchesJust}
 use Rattle.history_rules.specs.declared.entry.Event.{Event}
 use Rattle.history_rules.specs.declared.entry.Event.TheVariants.{Copying, Crashed, Reopened, Publishing}
@@ -49,7 +49,7 @@ use Rattle.history_book.specs.Jobs.{last_job, job_at}
 use Rattle.history_book.specs.Turns.{AreInTurn}
 use Rattle.cluster_nodes.specs.declared.nodes.Node.{Node}
 use Rattle.cluster_nodes.specs.declared.nodes.Node.TheVariants.{Primary, Replica, Down}
-use Rattle.cluster_nodes.specs.declared.nodes.Place.{Place}
+use Rattle.cluster_nodes.specs.declared.nodes.NodePlace.{NodePlace}
 use Rattle.cluster_nodes.specs.Places.{Disk, place_of, disk_of, disk_at, dir_of, tickets_of}
 use Rattle.cluster_nodes.specs.Outs.{want_of, want_at, jobs_like}
 use Rattle.cluster_nodes.specs.Lives.{OpensOn, ReopensIn}
@@ -266,18 +266,18 @@ module _ {D : Type 0} (cells : D → Cells) (source : Name → Content) (size : 
 
 -- ---- all nodes
 
-module _ {D : Type 0} (cells : D → Cells) (size : ℕ) (log : Log) (old new : List (Option (Place D))) (at : At) (n : NodeNo) (v : Version) (lasting : FilesLast)
+module _ {D : Type 0} (cells : D → Cells) (size : ℕ) (log : Log) (old new : List (Option (NodePlace D))) (at : At) (n : NodeNo) (v : Version) (lasting : FilesLast)
     (legal : IsLegalPast size (printed log)) (turns : AreInTurn (printed log)) (fresh : IsFresh at (printed log)) (node : IsNode size n.0) (down : is_running n.0 (printed log) ≡ false)
     (shows : Shows cells log size old) (files : FilesShow cells log size old) where
   abbrev jobs : Out → ℕ
   jobs s = jobs_like old s size
 
   -- what the directory of the node is
-  dir_at : (place : Place D) → place_of old n.0 ≡ Some place → DirShows files.source cells (printed log) n.0 (dir_of place.node)
+  dir_at : (place : NodePlace D) → place_of old n.0 ≡ Some place → DirShows files.source cells (printed log) n.0 (dir_of place.node)
   dir_at place there = dir_of_node place.node (some_at (Both cells files.source log jobs n.0) (place_of old n.0) place there (both_of cells log size old shows files n.0 node)).0.node_shows
       (some_at (λ z. DiskShows files.source cells (printed log) n.0 (disk_of z.node)) (place_of old n.0) place there (disk_some (place_of old n.0) (files.disks n.0 node)))
     where
-      disk_some : (o : Option (Place D)) → IsSomeAnd (disk_at o) (DiskShows files.source cells (printed log) n.0) → IsSomeAnd o (λ z. DiskShows files.source cells (printed log) n.0 (disk_of z.node))
+      disk_some : (o : Option (NodePlace D)) → IsSomeAnd (disk_at o) (DiskShows files.source cells (printed log) n.0) → IsSomeAnd o (λ z. DiskShows files.source cells (printed log) n.0 (disk_of z.node))
       disk_some None is = is
       disk_some (Some z) is = is
 
@@ -286,7 +286,7 @@ module _ {D : Type 0} (cells : D → Cells) (size : ℕ) (log : Log) (old new : 
       dir_of_node (Replica r) is disk = absurd (true≢false (sym is.running ∙ down))
       dir_of_node (Down d) is disk = disk.dir
 
-  pub is_settled : (place : Place D) → place_of old n.0 ≡ Some place → IsSettledOn (cells (dir_of place.node))
+  pub is_settled : (place : NodePlace D) → place_of old n.0 ≡ Some place → IsSettledOn (cells (dir_of place.node))
   is_settled place there = (dir_at place there).settled
 
   module _ (b : ReopensIn cells n.0 v old new) where
@@ -299,7 +299,7 @@ module _ {D : Type 0} (cells : D → Cells) (size : ℕ) (log : Log) (old new : 
     pub reopen_rule : KeepsRule size (printed log) at (Reopened n v)
     reopen_rule = may_reopen cells files.source size log at n v (dir_of b.place.node) b.replica lasting legal b.opens b.version d node down fresh
 
-    abbrev there : Place D
+    abbrev there : NodePlace D
     there = record { node = Replica b.replica; held = b.place.held }
 
     both : Both cells files.source log jobs n.0 b.place
@@ -353,11 +353,11 @@ module _ {D : Type 0} (cells : D → Cells) (size : ℕ) (log : Log) (old new : 
       grows : Grows (printed log) (printed after)
       grows = grows_shown size (printed log) at (Reopened n v) legal reopen_rule
 
-      disk_some : (P : Disk D → Type 0) (o : Option (Place D)) → IsSomeAnd (disk_at o) P → IsSomeAnd o (λ z. P (disk_of z.node))
+      disk_some : (P : Disk D → Type 0) (o : Option (NodePlace D)) → IsSomeAnd (disk_at o) P → IsSomeAnd o (λ z. P (disk_of z.node))
       disk_some P None is = is
       disk_some P (Some z) is = is
 
-      some_disk : (P : Disk D → Type 0) (o : Option (Place D)) → IsSomeAnd o (λ z. P (disk_of z.node)) → IsSomeAnd (disk_at o) P
+      some_disk : (P : Disk D → Type 0) (o : Option (NodePlace D)) → IsSomeAnd o (λ z. P (disk_of z.node)) → IsSomeAnd (disk_at o) P
       some_disk P None is = is
       some_disk P (Some z) is = is
 
@@ -389,7 +389,7 @@ module _ {D : Type 0} (cells : D → Cells) (size : ℕ) (log : Log) (old new : 
 
 -- ---- in the terms of a call
 
-module _ {D : Type 0} (cells : D → Cells) (r : Run) (ended : Bool) (b0 : Sheet) (old : List (Option (Place D))) (at : At) (n : NodeNo)
+module _ {D : Type 0} (cells : D → Cells) (r : Run) (ended : Bool) (b0 : Sheet) (old : List (Option (NodePlace D))) (at : At) (n : NodeNo)
     {left : Rest} (view : record { ended = ended; nodes = b0.nodes; log = b0.log; rest = left } ≡ r) (running : r.ended ≡ false) (pair : ended ≡ false → Shows cells b0.log b0.nodes old × FilesShow cells b0.log b0.nodes old) (lasting : FilesLast)
     (legal : IsLegalPast b0.nodes (printed b0.log)) (turns : AreInTurn (printed b0.log)) (fresh : IsFresh at (printed b0.log)) (node : IsNode r.nodes n.0) (down : is_running n.0 (printed r.log) ≡ false) where
   legal_now : IsLegalPast r.nodes (printed r.log)
@@ -407,10 +407,10 @@ module _ {D : Type 0} (cells : D → Cells) (r : Run) (ended : Bool) (b0 : Sheet
   f : FilesShow cells r.log r.nodes old
   f = files_was cells r ended b0.nodes b0.log old view running (λ e. (pair e).1)
 
-  pub settled_there : (place : Place D) → place_of old n.0 ≡ Some place → IsSettledOn (cells (dir_of place.node))
+  pub settled_there : (place : NodePlace D) → place_of old n.0 ≡ Some place → IsSettledOn (cells (dir_of place.node))
   settled_there = is_settled cells r.nodes r.log old old at n (record { 0 = 0 }) lasting legal_now turns_now fresh_now node down s f
 
-  module _ (v : Version) (new : List (Option (Place D))) (b : ReopensIn cells n.0 v old new) where
+  module _ (v : Version) (new : List (Option (NodePlace D))) (b : ReopensIn cells n.0 v old new) where
     pub rule_there : KeepsRule r.nodes (printed r.log) at (Reopened n v)
     rule_there = reopen_rule cells r.nodes r.log old new at n v lasting legal_now turns_now fresh_now node down s f b
 

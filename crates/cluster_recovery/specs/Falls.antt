@@ -3,7 +3,7 @@ use Rattle.std.specs.Prelude.{ℕ, ◌≡◌, ◌==◌, true, Bool, List, [], Op
 use Rattle.std.specs.List.{list_any}
 use Rattle.disk_model.specs.Disk.{Cells}
 use Rattle.searcher_switch.specs.Appearing.{NoneAppears}
-use Rattle.replica_state.specs.declared.parts.Parts.{Parts as ReplicaParts}
+use Rattle.replica_state.specs.declared.parts.ReplicaParts.{ReplicaParts}
 use Rattle.replica_state.specs.Merges.{copy_at}
 use Rattle.replica_state.specs.Replica.{IsWholeReplica, AreStanding}
 use Rattle.replica_state.specs.Sources.{KeepsSource}
@@ -13,7 +13,7 @@ use Rattle.merge_tasks.specs.declared.tasks.Spread.{Spread}
 use Rattle.merge_tasks.specs.Board.{Board, is_sent_to}
 use Rattle.cluster_nodes.specs.declared.nodes.Node.{Node}
 use Rattle.cluster_nodes.specs.declared.nodes.Node.TheVariants.{Replica}
-use Rattle.cluster_nodes.specs.declared.nodes.Place.{Place}
+use Rattle.cluster_nodes.specs.declared.nodes.NodePlace.{NodePlace}
 use Rattle.cluster_nodes.specs.Places.{place_of}
 use Rattle.cluster_state.specs.Merging.{RunsNoOther}
 
@@ -52,17 +52,17 @@ module _ {D : Type 0} where
   NodeLoses cells n rows old new = new ≡ old
 
   -- so it is of the node that is there; what is held of it is held
-  abbrev pub PlaceLoses : (D → Cells) → ℕ → List OpenMerge → Option (Place D) → Option (Place D) → Type 0
+  abbrev pub PlaceLoses : (D → Cells) → ℕ → List OpenMerge → Option (NodePlace D) → Option (NodePlace D) → Type 0
   PlaceLoses cells n rows None new = new ≡ None
   PlaceLoses cells n rows (Some x) new = IsSomeAnd new (λ y. (y.held ≡ x.held) × NodeLoses cells n rows x.node y.node)
 
   -- the same of all nodes
-  pub record AllLose (cells : D → Cells) (rows : List OpenMerge) (old new : List (Option (Place D))) : Type 0 where
+  pub record AllLose (cells : D → Cells) (rows : List OpenMerge) (old new : List (Option (NodePlace D))) : Type 0 where
     pub count : length new ≡ length old
     pub each : (m : ℕ) → PlaceLoses cells m rows (place_of old m) (place_of new m)
 
   -- no merge is in flight any more, no task is posted, and no copy of a merge runs
-  pub record Falls (cells : D → Cells) (board now : Board) (old new : List (Option (Place D))) : Type 0 where
+  pub record Falls (cells : D → Cells) (board now : Board) (old new : List (Option (NodePlace D))) : Type 0 where
     pub lose : AllLose cells board.rows old new
     pub rows : now.rows ≡ []
     pub posted : now.posted ≡ []

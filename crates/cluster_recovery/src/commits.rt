@@ -15,7 +15,7 @@ use nrt_base::{At, NoMemory, NodeNo, Version};
 use std::alloc::Global;
 
 /// Begins a commit of the version that the running node searches, where none of it is in flight. The directory is not called.
-/// `Err` is want of memory, or of a number below 2^62: the cluster has ended, and the history is as before.
+/// It fails when out of memory, or out of numbers below 2^62: the cluster has ended, and the history is as before.
 pub fn begin_commit<D: FaultDir + Drop>(
     alloc: Global,
     cluster: &mut ClusterState<D>,
@@ -43,7 +43,7 @@ pub fn begin_commit<D: FaultDir + Drop>(
 }
 
 /// Makes the next call of the directory for the commit that this line began at the node, and answers whether the commit is
-/// made, which is then shown. `Err` is want of memory, or a disk that failed: the cluster has ended, and the history is as before.
+/// made, which is then shown. It fails when out of memory or when the disk fails: the cluster has ended, and the history is as before.
 pub fn step_commit<D: FaultDir + Drop>(
     alloc: Global,
     cluster: &mut ClusterState<D>,

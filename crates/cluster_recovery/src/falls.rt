@@ -7,7 +7,7 @@ ghost use Rattle.cluster_nodes.specs.Places.{place_of, IsSlot};
 ghost use Rattle.merge_tasks.specs.Board.{is_sent_in};
 ghost use Rattle.cluster_recovery.specs.Falls.{LosesCopies, EndsSent, EndsSpread, EndsCopies, NodeLoses, PlaceLoses, AllLose, Falls};
 
-use cluster_state::{Node, Place, Replica};
+use cluster_state::{Node, NodePlace, Replica};
 use disk_model::Dir;
 use merge_tasks::{OpenMerge, Sent, Spread, Tasks};
 use node_merges::drop_copy;
@@ -71,7 +71,7 @@ fn drop_at_node<D: Dir + Drop>(node: &mut Node<D>, n: usize, rows: &[OpenMerge])
 }
 
 // The same of the node that is there.
-fn drop_at_place<D: Dir + Drop>(slot: &mut Option<Place<D>>, n: usize, rows: &[OpenMerge])
+fn drop_at_place<D: Dir + Drop>(slot: &mut Option<NodePlace<D>>, n: usize, rows: &[OpenMerge])
     ensures { PlaceLoses D.cells n rows.now slot.old slot.new }
 {
     match slot {
@@ -81,7 +81,7 @@ fn drop_at_place<D: Dir + Drop>(slot: &mut Option<Place<D>>, n: usize, rows: &[O
 }
 
 // The same of the node in a place.
-fn drop_at<D: Dir + Drop>(places: &mut Vec<Option<Place<D>>>, n: usize, rows: &[OpenMerge])
+fn drop_at<D: Dir + Drop>(places: &mut Vec<Option<NodePlace<D>>>, n: usize, rows: &[OpenMerge])
     requires { IsSlot places.old.items n }
     ensures count { length places.new.items ≡ length places.old.items }
     ensures loses { PlaceLoses D.cells n rows.now
@@ -93,7 +93,7 @@ fn drop_at<D: Dir + Drop>(places: &mut Vec<Option<Place<D>>>, n: usize, rows: &[
 }
 
 // Ends each copy of these merges, where it runs.
-fn drop_all<D: Dir + Drop>(places: &mut Vec<Option<Place<D>>>, rows: &[OpenMerge])
+fn drop_all<D: Dir + Drop>(places: &mut Vec<Option<NodePlace<D>>>, rows: &[OpenMerge])
     ensures { AllLose D.cells rows.now places.old.items places.new.items }
 {
     for k in 0..places.len() {
@@ -103,7 +103,7 @@ fn drop_all<D: Dir + Drop>(places: &mut Vec<Option<Place<D>>>, rows: &[OpenMerge
 
 /// Where the primary crashed, no merge is in flight any more, no task is posted, and no copy of a merge runs. Takes no memory.
 pub fn end_merges<D: Dir + Drop>(
-    places: &mut Vec<Option<Place<D>>>,
+    places: &mut Vec<Option<NodePlace<D>>>,
     tasks: &mut Tasks,
     primary: Option<NodeNo>,
     n: NodeNo,

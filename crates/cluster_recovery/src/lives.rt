@@ -17,7 +17,7 @@ use std::alloc::Global;
 
 /// Crashes a running node. Its tickets and searches are gone with it, and its directory is one that a crash may leave: the
 /// number picks among these. Jobs at other nodes have the files that they had: where the primary crashed they were stopped.
-/// `Err` is want of memory: the cluster has ended, and the history is as before.
+/// It fails when out of memory: the cluster has ended, and the history is as before.
 pub fn crash_node<D: FaultDir + Drop>(
     alloc: Global,
     cluster: &mut ClusterState<D>,
@@ -49,7 +49,7 @@ pub fn crash_node<D: FaultDir + Drop>(
     Ok(())
 }
 
-/// Reopens a node that is down as a replica, at a version of its commits. `Err` is want of memory, or a disk that failed: the
+/// Reopens a node that is down as a replica, at a version of its commits. It fails when out of memory or when the disk fails: the
 /// cluster has ended, and the history is as before.
 pub fn reopen_node<D: FaultDir + Drop>(
     alloc: Global,

@@ -17,7 +17,7 @@ use std::alloc::{AllocError, Global};
 const GENERATIONS: u64 = 1 << 31;
 
 /// Promotes a replica where no primary runs: it is the primary of the next generation, and its first point has one version above the
-/// forced one. No version that was published or promoted is above that. `Err` is want of memory, or of a generation below 2^31: the
+/// forced one. No version that was published or promoted is above that. It fails when out of memory, or out of generations below 2^31: the
 /// cluster has ended, and the history is as before.
 pub fn promote_node<D: FaultDir + Drop>(
     alloc: Global,

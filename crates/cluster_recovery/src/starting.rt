@@ -9,7 +9,7 @@ ghost use Rattle.cluster_state.specs.State.{PrimaryShows};
 ghost use Rattle.cluster_state.specs.Files.{PrimaryFiles};
 ghost use Rattle.cluster_state.specs.Names.{NamesShow};
 
-use cluster_nodes::{Node, NodeParts, Place, Primary, Replica};
+use cluster_nodes::{Node, NodeParts, NodePlace, Primary, Replica};
 use cluster_state::ClusterState;
 use disk_model::{Dir, FaultDir};
 use merge_tasks::{Ledger, Tasks};
@@ -47,7 +47,7 @@ fn first_primary<D: Dir + Drop>(alloc: Global, replica: Replica<D>) -> Result<Pr
 }
 
 // A node on an empty directory.
-fn first_place<D: Dir + Drop>(alloc: Global, n: usize, dir: D) -> Result<Place<D>, NoMemory>
+fn first_place<D: Dir + Drop>(alloc: Global, n: usize, dir: D) -> Result<NodePlace<D>, NoMemory>
     requires empty { IsEmptyDir (D.cells dir) }
     ensures { IfOk result (OpensPlace D.cells n) }
 {
@@ -58,14 +58,14 @@ fn first_place<D: Dir + Drop>(alloc: Global, n: usize, dir: D) -> Result<Place<D
         Node::Replica(replica)
     };
     let held = Vec::new(alloc);
-    Ok(Place { node, held })
+    Ok(NodePlace { node, held })
 }
 
 // The nodes on these directories, in order.
 fn first_places<D: Dir + Drop>(
     alloc: Global,
     dirs: Vec<D>,
-) -> Result<Vec<Option<Place<D>>>, NoMemory>
+) -> Result<Vec<Option<NodePlace<D>>>, NoMemory>
     requires { All (λ dir. IsEmptyDir (D.cells dir)) dirs.items }
     ensures count { IfOk result (λ places. length places.items ≡ length dirs.items) }
     ensures each { IfOk result (λ places. (n : ℕ) → IsNode (length dirs.items) n
@@ -80,7 +80,7 @@ fn first_places<D: Dir + Drop>(
 }
 
 /// A cluster over these directories, where nothing stands: node n is on the n-th of them, from 1. Node 1 is the primary, and
-/// the others are replicas. `Err` is want of memory, or a disk that failed.
+/// the others are replicas. It fails when out of memory or when the disk fails.
 pub fn start_cluster<D: FaultDir + Drop>(
     alloc: Global,
     dirs: Vec<D>,

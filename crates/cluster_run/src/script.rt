@@ -13,7 +13,7 @@ ghost use Rattle.cluster_run.specs.Running.{history_of};
 
 use crate::crossing::{book_crosses, sent};
 use crate::runner::ClusterLines;
-use cluster_nodes::Place;
+use cluster_nodes::NodePlace;
 use cluster_state::ClusterState;
 use disk_memory::MemDir;
 use lane_sections::{Cluster, Gate};
@@ -64,7 +64,7 @@ pub fn run_script<R: Threads + Wait + Sync, G: Gate + Sync>(
     book_crosses();
     sent::<Ledger>();
     sent::<Tasks>();
-    sent::<Vec<Option<Place<MemDir>>>>();
+    sent::<Vec<Option<NodePlace<MemDir>>>>();
     sent::<ClusterState<MemDir>>();
     let nodes = script.nodes;
     let cluster = Cluster::start(alloc, empty_dirs(alloc, nodes)?)?;

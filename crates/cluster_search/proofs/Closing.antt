@@ -8,9 +8,9 @@ use Rattle.history_rules.specs.Nodes.{Past, primary_of}
 use Rattle.history_rules.specs.Tickets.{open_ticket, IsTicketOf}
 use Rattle.nrt_base.specs.declared.numbers.At.{At}
 use Rattle.history_tables.proofs.RowLemmas.{by_test}
-use Rattle.cluster_nodes.specs.declared.held.Held.{Held}
-use Rattle.cluster_nodes.specs.declared.held.Key.{Key}
-use Rattle.cluster_nodes.specs.declared.held.Key.TheVariants.{Search}
+use Rattle.cluster_nodes.specs.declared.held.HeldTicket.{HeldTicket}
+use Rattle.cluster_nodes.specs.declared.held.HeldKey.{HeldKey}
+use Rattle.cluster_nodes.specs.declared.held.HeldKey.TheVariants.{Search}
 use Rattle.cluster_nodes.specs.Held.{same_key, held_number}
 use Rattle.cluster_state.specs.Lookups.{IsSearching}
 use Rattle.cluster_state.specs.State.{StandForVersion, HoldsAt, ticket_key, HoldsTickets, PlaceShows}
@@ -22,7 +22,7 @@ use Rattle.history_rules.specs.Legal.{KeepsRule, IsLegalPast}
 use Rattle.history_book.specs.Log.{Log, printed, shown}
 use Rattle.history_book.specs.Turns.{AreInTurn}
 use Rattle.cluster_nodes.specs.declared.nodes.Node.{Node}
-use Rattle.cluster_nodes.specs.declared.nodes.Place.{Place}
+use Rattle.cluster_nodes.specs.declared.nodes.NodePlace.{NodePlace}
 use Rattle.cluster_nodes.specs.Places.{tickets_of}
 use Rattle.cluster_nodes.specs.Changes.{KeepsNode, ClosesTicket, HoldsLess}
 use Rattle.cluster_state.specs.Moves.{moves, EndsKey}
@@ -44,22 +44,22 @@ left_by P None m tickets after closed other is = subst (λ (ts : List (Open Show
 left_by P (Some number) m tickets after closed other is =
     subst (λ (ts : List (Open Shown)). IsSomeAnd (ticket_at m ts) P) (sym closed) (ticket_left P m number tickets (λ same. other (ap Some (sym same))) is)
 
-module _ (past now : Past) (n : ℕ) (key : Key) (tickets after : List (Open Shown)) (held rows : List Held)
-    (closed : AreClosed (held_number held key) tickets after) (less : (k : Key) → held_number rows k ≡ (if same_key key k then None else held_number held k)) where
-  row_left : (k : Key) → same_key key k ≡ false → held_number rows k ≡ held_number held k
+module _ (past now : Past) (n : ℕ) (key : HeldKey) (tickets after : List (Open Shown)) (held rows : List HeldTicket)
+    (closed : AreClosed (held_number held key) tickets after) (less : (k : HeldKey) → held_number rows k ≡ (if same_key key k then None else held_number held k)) where
+  row_left : (k : HeldKey) → same_key key k ≡ false → held_number rows k ≡ held_number held k
   row_left k apart = less k ∙ ap (λ (b : Bool). if b then None else held_number held k) apart
 
   -- what is still held was held, and not for this
-  row_was : (k : Key) (m : ℕ) → held_number rows k ≡ Some m → (same_key key k ≡ false) × (held_number held k ≡ Some m)
+  row_was : (k : HeldKey) (m : ℕ) → held_number rows k ≡ Some m → (same_key key k ≡ false) × (held_number held k ≡ Some m)
   row_was k m is =
       by_test (same_key key k) (λ b. same_key key k ≡ b → (same_key key k ≡ false) × (held_number held k ≡ Some m))
       (λ same q. let none : None ≡ Some m = sym (ap (λ (b : Bool). if b then None else held_number held k) same) ∙ (sym (less k) ∙ is) in absurd (cc))
       (λ apart q. (apart, sym (row_left k apart) ∙ is)) refl
 
-  other_number : HoldsTickets past n tickets held → (k : Key) (m : ℕ) → same_key key k ≡ false → held_number held k ≡ Some m → held_number held key ≢ Some m
+  other_number : HoldsTickets past n tickets held → (k : HeldKey) (m : ℕ) → same_key key k ≡ false → held_number held k ≡ Some m → held_number held key ≢ Some m
   other_number was k m apart is mine = true≢false (sym (was.apart key k m mine is) ∙ apart)
 
-  held_left : HoldsTickets past n tickets held → (k : Key) (w : ℕ) → same_key key k ≡ false → HoldsAt tickets held k w → HoldsAt after rows k w
+  held_left : HoldsTickets past n tickets held → (k : HeldKey) (w : ℕ) → same_key key k ≡ false → HoldsAt tickets held k w → HoldsAt after rows k w
   held_left was k w apart is =
       subst (λ (o : Option ℕ). IsSomeAnd o (λ m. IsSomeAnd (ticket_at m after) (λ t. t.point.version.0 ≡ w))) (sym (row_left k apart))
       (some_with (held_number held k) is (λ m here open_is. left_by (λ t. t.point.version.0 ≡ w) (held_number held key) m tickets after closed (other_number was k m apart here) open_is))
@@ -82,7 +82,7 @@ module _ {D : Type 0} (cells : D → Cells) where
   closes (Some number) x y closed = closed
 
   -- a node of which a ticket was given back
-  pub closed_place : (size : ℕ) (log : Log) (at : At) (e : Event) (n : ℕ) (key : Key) (old new : Place D) → IsLegalPast size (printed log) → AreInTurn (printed log)
+  pub closed_place : (size : ℕ) (log : Log) (at : At) (e : Event) (n : ℕ) (key : HeldKey) (old new : NodePlace D) → IsLegalPast size (printed log) → AreInTurn (printed log)
       → KeepsRule size (printed log) at e → start_entry at (printed log) ≢ Some Publishing → moves e (primary_of (printed log)) n ≡ false
       → KeepsNode cells old.node new.node → HoldsLess key old new → EndsKey (printed log) (printed (shown at e ∷ log)) n key
       → PlaceShows cells log n old → PlaceShows cells (shown at e ∷ log) n new

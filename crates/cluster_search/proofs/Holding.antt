@@ -8,19 +8,19 @@ use Rattle.disk_model.specs.Disk.{Cells}
 use Rattle.seg_reader.specs.Shown.{Shown}
 use Rattle.segment_infos.specs.declared.infos.Infos.{Infos}
 use Rattle.searcher_switch.specs.declared.open.Open.{Open}
-use Rattle.searcher_switch.specs.declared.open.Point.{Point}
+use Rattle.searcher_switch.specs.declared.open.SearchPoint.{SearchPoint}
 use Rattle.searcher_switch.specs.Tickets.{ticket_at, tickets_without}
 use Rattle.history_rules.specs.Nodes.{Past, version_of}
 use Rattle.history_rules.specs.Lines.{publish_in_flight}
 use Rattle.history_rules.specs.Tickets.{open_ticket, IsTicketOf}
 use Rattle.history_tables.proofs.RowLemmas.{by_test}
 use Rattle.history_book.specs.Log.{Log, printed}
-use Rattle.primary_state.specs.declared.parts.Parts.{Parts as PrimaryParts}
+use Rattle.primary_state.specs.declared.parts.PrimaryParts.{PrimaryParts}
 use Rattle.primary_state.specs.declared.parts.Publish.{Publish}
-use Rattle.replica_state.specs.declared.parts.Parts.{Parts as ReplicaParts}
-use Rattle.cluster_nodes.specs.declared.held.Held.{Held}
-use Rattle.cluster_nodes.specs.declared.held.Key.{Key}
-use Rattle.cluster_nodes.specs.declared.held.Key.TheVariants.{Search}
+use Rattle.replica_state.specs.declared.parts.ReplicaParts.{ReplicaParts}
+use Rattle.cluster_nodes.specs.declared.held.HeldTicket.{HeldTicket}
+use Rattle.cluster_nodes.specs.declared.held.HeldKey.{HeldKey}
+use Rattle.cluster_nodes.specs.declared.held.HeldKey.TheVariants.{Search}
 use Rattle.cluster_nodes.specs.declared.nodes.Node.{Node}
 use Rattle.cluster_nodes.specs.declared.nodes.Node.TheVariants.{Primary, Replica, Down}
 use Rattle.cluster_nodes.specs.Held.{same_key, held_number}
@@ -78,31 +78,31 @@ ticket_left P number gone (t ∷ ts) apart is =
 abbrev pub IsNewOr : Bool → ℕ → ℕ → Type 0 → Type 0
 IsNewOr same v w before = ((same ≡ true) × (w ≡ v)) ⊎ ((same ≡ false) × before)
 
-module _ (past now : Past) (n number v : ℕ) (key : Key) (point : Point Shown) (tickets after : List (Open Shown)) (held rows : List Held)
+module _ (past now : Past) (n number v : ℕ) (key : HeldKey) (point : SearchPoint Shown) (tickets after : List (Open Shown)) (held rows : List HeldTicket)
     (fresh : is_some (ticket_at number tickets) ≡ false) (more : after ≡ tickets ++ record { number = number; point = point } ∷ [])
-    (holds : (k : Key) → held_number rows k ≡ (if same_key key k then Some number else held_number held k)) where
+    (holds : (k : HeldKey) → held_number rows k ≡ (if same_key key k then Some number else held_number held k)) where
   new_there : (P : Open Shown → Type 0) → P (record { number = number; point = point }) → IsSomeAnd (ticket_at number after) P
   new_there P is = subst (λ (ts : List (Open Shown)). IsSomeAnd (ticket_at number ts) P) (sym more) (ticket_last P number tickets (record { number = number; point = point }) fresh refl is)
 
   old_there : (P : Open Shown → Type 0) (k : ℕ) → IsSomeAnd (ticket_at k tickets) P → IsSomeAnd (ticket_at k after) P
   old_there P k is = subst (λ (ts : List (Open Shown)). IsSomeAnd (ticket_at k ts) P) (sym more) (ticket_more P k tickets (record { number = number; point = point } ∷ []) is)
 
-  row_new : (k : Key) → same_key key k ≡ true → held_number rows k ≡ Some number
+  row_new : (k : HeldKey) → same_key key k ≡ true → held_number rows k ≡ Some number
   row_new k same = holds k ∙ ap (λ (b : Bool). if b then Some number else held_number held k) same
 
-  row_old : (k : Key) → same_key key k ≡ false → held_number rows k ≡ held_number held k
+  row_old : (k : HeldKey) → same_key key k ≡ false → held_number rows k ≡ held_number held k
   row_old k apart = holds k ∙ ap (λ (b : Bool). if b then Some number else held_number held k) apart
 
-  held_new : (k : Key) (w : ℕ) → point.version.0 ≡ v → same_key key k ≡ true → w ≡ v → HoldsAt after rows k w
+  held_new : (k : HeldKey) (w : ℕ) → point.version.0 ≡ v → same_key key k ≡ true → w ≡ v → HoldsAt after rows k w
   held_new k w version same is =
       subst (λ (o : Option ℕ). IsSomeAnd o (λ m. IsSomeAnd (ticket_at m after) (λ t. t.point.version.0 ≡ w))) (sym (row_new k same)) (new_there (λ t. t.point.version.0 ≡ w) (version ∙ sym is))
 
-  held_old : (k : Key) (w : ℕ) → same_key key k ≡ false → HoldsAt tickets held k w → HoldsAt after rows k w
+  held_old : (k : HeldKey) (w : ℕ) → same_key key k ≡ false → HoldsAt tickets held k w → HoldsAt after rows k w
   held_old k w apart was =
       subst (λ (o : Option ℕ). IsSomeAnd o (λ m. IsSomeAnd (ticket_at m after) (λ t. t.point.version.0 ≡ w))) (sym (row_old k apart)) (some_then (held_number held k) was (λ m is. old_there (λ t. t.point.version.0 ≡ w) m is))
 
   each_more : ((w : ℕ) (segs : List Shown) → StandForVersion past w segs → StandForVersion now w segs) → IsPointAt now v point → HoldsTickets past n tickets held
-      → (k : Key) (m : ℕ) → held_number rows k ≡ Some m → IsOpenOn now after m
+      → (k : HeldKey) (m : ℕ) → held_number rows k ≡ Some m → IsOpenOn now after m
   each_more stands at was k m is =
       by_test (same_key key k) (λ b. same_key key k ≡ b → IsOpenOn now after m)
       (λ same q. let here : Some number ≡ Some m = sym (row_new k same) ∙ is in let eq : number ≡ m = cc in
@@ -110,18 +110,18 @@ module _ (past now : Past) (n number v : ℕ) (key : Key) (point : Point Shown) 
       (λ apart q. old_there (λ o. StandForVersion now o.point.version.0 o.point.readers) m (some_then (ticket_at m tickets) (was.each k m (sym (row_old k apart) ∙ is)) (λ o s. stands o.point.version.0 o.point.readers s)))
       refl
 
-  apart_more : HoldsTickets past n tickets held → (a b : Key) (m : ℕ) → held_number rows a ≡ Some m → held_number rows b ≡ Some m → same_key a b ≡ true
+  apart_more : HoldsTickets past n tickets held → (a b : HeldKey) (m : ℕ) → held_number rows a ≡ Some m → held_number rows b ≡ Some m → same_key a b ≡ true
   apart_more was a b m is is' =
       by_test (same_key key a) (λ t. same_key key a ≡ t → same_key a b ≡ true)
       (λ sa q. by_test (same_key key b) (λ t. same_key key b ≡ t → same_key a b ≡ true)
-      (λ sb r. subst (λ (k : Key). same_key k b ≡ true) (same_key_is key a sa) sb)
+      (λ sb r. subst (λ (k : HeldKey). same_key k b ≡ true) (same_key_is key a sa) sb)
       (λ ob r. absurd (other a b m is is' sa ob)) refl)
       (λ oa q. by_test (same_key key b) (λ t. same_key key b ≡ t → same_key a b ≡ true)
       (λ sb r. absurd (other b a m is' is sb oa))
       (λ ob r. was.apart a b m (sym (row_old a oa) ∙ is) (sym (row_old b ob) ∙ is')) refl)
       refl
     where
-      other : (k l : Key) (m : ℕ) → held_number rows k ≡ Some m → held_number rows l ≡ Some m → same_key key k ≡ true → same_key key l ≡ false → ⊥
+      other : (k l : HeldKey) (m : ℕ) → held_number rows k ≡ Some m → held_number rows l ≡ Some m → same_key key k ≡ true → same_key key l ≡ false → ⊥
       other k l m ik il sk ol =
           let here : Some number ≡ Some m = sym (row_new k sk) ∙ ik in let eq : number ≡ m = cc in
           not_fresh (λ o. StandForVersion past o.point.version.0 o.point.readers) (ticket_at m tickets) (was.each l m (sym (row_old l ol) ∙ il)) (subst (λ (j : ℕ). is_some (ticket_at j tickets) ≡ false) eq fresh)
@@ -145,7 +145,7 @@ module _ {D : Type 0} (cells : D → Cells) where
     running = was.running;
     primary = was.primary;
     whole = k.2 was.whole;
-    point = subst (λ (o : Point Shown). IsPointAt (printed log) (version_of n (printed log)) o) (sym k.1) was.point;
+    point = subst (λ (o : SearchPoint Shown). IsPointAt (printed log) (version_of n (printed log)) o) (sym k.1) was.point;
     writer = subst (λ (x : Infos × List Shown). WritesAt (printed log) x.0 x.1) (λ i. (sym (ap (λ (z : PrimaryParts D). z.infos) k.0) i, sym (ap (λ (z : PrimaryParts D). z.segs) k.0) i)) was.writer;
     waiting = ap (λ (z : PrimaryParts D). z.waiting) k.0 ∙ was.waiting;
     accepted = ap (λ (z : PrimaryParts D). z.accepted) k.0 ∙ was.accepted;
@@ -161,7 +161,7 @@ module _ {D : Type 0} (cells : D → Cells) where
     other = was.other;
     whole = k.2 was.whole;
     standing = k.3 was.standing;
-    point = subst (λ (o : Point Shown). IsPointAt past (version_of n past) o) (sym k.1) was.point;
+    point = subst (λ (o : SearchPoint Shown). IsPointAt past (version_of n past) o) (sym k.1) was.point;
     seen = omega (arith, was.seen, ap (λ (z : ReplicaParts D). z.seen.0) k.0);
   }
 

@@ -28,7 +28,7 @@ use Rattle.searcher_switch.specs.Node.{IsWholeNode}
 use Rattle.seg_reader.specs.Shown.{Shown}
 use Rattle.seg_reader.specs.Stands.{AreSegmentsOf}
 use Rattle.searcher_switch.specs.declared.open.Open.{Open}
-use Rattle.searcher_switch.specs.declared.open.Point.{Point}
+use Rattle.searcher_switch.specs.declared.open.SearchPoint.{SearchPoint}
 use Rattle.searcher_switch.specs.declared.searchers.Searchers.{Searchers}
 use Rattle.searcher_switch.specs.Tickets.{ticket_at, ticket_names}
 use Rattle.searcher_switch.specs.Searching.{searcher_names}
@@ -44,10 +44,10 @@ use Rattle.history_rules.specs.Legal.{KeepsRule}
 use Rattle.history_book.specs.Log.{Log, printed}
 use Rattle.merge_tasks.specs.Merging.{Sheet}
 use Rattle.history_book.specs.Laws.{IsFresh}
-use Rattle.cluster_nodes.specs.declared.held.Held.{Held}
+use Rattle.cluster_nodes.specs.declared.held.HeldTicket.{HeldTicket}
 use Rattle.cluster_nodes.specs.declared.nodes.Node.{Node}
 use Rattle.cluster_nodes.specs.declared.nodes.Node.TheVariants.{Primary, Replica, Down}
-use Rattle.cluster_nodes.specs.declared.nodes.Place.{Place}
+use Rattle.cluster_nodes.specs.declared.nodes.NodePlace.{NodePlace}
 use Rattle.cluster_nodes.specs.Held.{held_number}
 use Rattle.cluster_nodes.specs.Places.{place_of, tickets_of, disk_of, disk_at, HasRunning}
 use Rattle.cluster_nodes.specs.Listed.{dir_of, AreNamesOf, AreNamesAt}
@@ -132,12 +132,12 @@ ticket_named (t ∷ ts) o q (i, lt, e) named = at i lt e (λ k lt' e'. ticket_na
 
 module _ (past : Past) (cells : Cells) (names : List Name) (told : AreNamesOf cells names) where
   -- the names of a point with documents have one of stored documents, which is told
-  point_told : (point : Point Shown) (v : ℕ) → ((q : Name) → 0 < times point.names q → IsThere cells q) → NamesDocuments point → StandForVersion past v point.readers → has_documents past v ≡ true → list_any is_documents_name names ≡ true
+  point_told : (point : SearchPoint Shown) (v : ℕ) → ((q : Name) → 0 < times point.names q → IsThere cells q) → NamesDocuments point → StandForVersion past v point.readers → has_documents past v ≡ true → list_any is_documents_name names ≡ true
   point_told point v stand named stands docs =
       let f = found is_documents_name point.names (named (some_segments (documents_at past v) point.readers stands.documents docs)) in
       listed is_documents_name names f.0 (told.told f.0 ∙ stand f.0 (among_times point.names f.0 (among_of point.names f.0 f.2))) f.1
 
-  may_list : (size : ℕ) (at : At) (n : NodeNo) (s : Searchers Shown) (held : List Held) (loose : List ℕ) → IsNode size n.0 → is_running n.0 past ≡ true → AreNamesShown past cells s.tickets loose → NamesDocuments s.point
+  may_list : (size : ℕ) (at : At) (n : NodeNo) (s : Searchers Shown) (held : List HeldTicket) (loose : List ℕ) → IsNode size n.0 → is_running n.0 past ≡ true → AreNamesShown past cells s.tickets loose → NamesDocuments s.point
       → IsPointAt past (version_of n.0 past) s.point → HoldsTickets past n.0 s.tickets held → ((q : Name) → 0 < times (searcher_names s) q → IsThere cells q)
       → (has_committed n.0 past ≡ true → (q : Name) × (is_commit_name q ≡ true) × IsThere cells q) → has_met_fault at past ≡ false → MayListFiles size past at n names
   may_list size at n s held loose node running shown point here holds stand made spared = record {
@@ -192,7 +192,7 @@ commit_there cells holdings others book node some = by book.last refl node.sound
     by (Some c) is stays some = (own_name c, own_is c stays.commit, node.whole.names (own_name c) ∙ known_counted holdings (own_name c) (held c is stays))
 
 module _ {D : Type 0} (cells : D → Cells) where
-  node_lists : (source : Name → Content) (size : ℕ) (log : Log) (at : At) (n : NodeNo) (x : Node D) (held : List Held) (names : List Name) → IsNode size n.0 → is_running n.0 (printed log) ≡ true → NodeShows cells log n.0 x → HoldsTickets (printed log) n.0 (tickets_of x) held
+  node_lists : (source : Name → Content) (size : ℕ) (log : Log) (at : At) (n : NodeNo) (x : Node D) (held : List HeldTicket) (names : List Name) → IsNode size n.0 → is_running n.0 (printed log) ≡ true → NodeShows cells log n.0 x → HoldsTickets (printed log) n.0 (tickets_of x) held
       → NamesShow cells (printed log) x → DiskShows source cells (printed log) n.0 (disk_of x) → AreNamesOf (cells (dir_of x)) names → has_met_fault at (printed log) ≡ false → MayListFiles size (printed log) at n names
   node_lists source size log at n (Primary p) held names node running shows holds shown disk told spared =
       may_list (printed log) (cells p.dir) names told size at n p.searchers held (loose_of p) node running shown (primary_named cells p shows.whole) shows.point holds
@@ -206,12 +206,12 @@ module _ {D : Type 0} (cells : D → Cells) where
       (λ is. commit_there (cells r.dir) r.files (replica_names r) r.commits shows.whole.node (disk.book.has is)) spared
   node_lists source size log at n (Down d) held names node running shows holds shown disk told spared = absurd (true≢false (sym running ∙ shows.down))
 
-  place_lists : (source : Name → Content) (size : ℕ) (log : Log) (at : At) (n : NodeNo) (o : Option (Place D)) (names : List Name) → IsNode size n.0 → is_running n.0 (printed log) ≡ true → IsSomeAnd o (PlaceShows cells log n.0)
+  place_lists : (source : Name → Content) (size : ℕ) (log : Log) (at : At) (n : NodeNo) (o : Option (NodePlace D)) (names : List Name) → IsNode size n.0 → is_running n.0 (printed log) ≡ true → IsSomeAnd o (PlaceShows cells log n.0)
       → IsSomeAnd o (λ z. NamesShow cells (printed log) z.node) → IsSomeAnd (disk_at o) (DiskShows source cells (printed log) n.0) → AreNamesAt cells o names → has_met_fault at (printed log) ≡ false → MayListFiles size (printed log) at n names
   place_lists source size log at n None names node running shows shown disk told spared = absurd shows
   place_lists source size log at n (Some x) names node running shows shown disk told spared = node_lists source size log at n x.node x.held.items names node running shows.node_shows shows.tickets shown disk told spared
 
-  running_place : (log : Log) (n : ℕ) (o : Option (Place D)) → is_running n (printed log) ≡ true → IsSomeAnd o (PlaceShows cells log n) → HasRunning o
+  running_place : (log : Log) (n : ℕ) (o : Option (NodePlace D)) → is_running n (printed log) ≡ true → IsSomeAnd o (PlaceShows cells log n) → HasRunning o
   running_place log n None running shows = absurd shows
   running_place log n (Some x) running shows = by x.node shows.node_shows
     where
@@ -222,11 +222,11 @@ module _ {D : Type 0} (cells : D → Cells) where
 
   -- ---- in the terms of a call
 
-  pub running_there : (r : Run) (ended : Bool) (size n : ℕ) (log : Log) (places : List (Option (Place D))) → {left : Rest} → record { ended = ended; nodes = size; log = log; rest = left } ≡ r → r.ended ≡ false
+  pub running_there : (r : Run) (ended : Bool) (size n : ℕ) (log : Log) (places : List (Option (NodePlace D))) → {left : Rest} → record { ended = ended; nodes = size; log = log; rest = left } ≡ r → r.ended ≡ false
       → (ended ≡ false → Shows cells log size places) → IsNode r.nodes n → is_running n (printed r.log) ≡ true → HasRunning (place_of places n)
   running_there r ended size n log places view running shows node up = running_place r.log n (place_of places n) up ((was cells r ended size log places view running shows).each n node)
 
-  pub may_tell : (r : Run) (ended : Bool) (b : Sheet) (places : List (Option (Place D))) (at : At) (n : NodeNo) (names : List Name) → {left : Rest} → record { ended = ended; nodes = b.nodes; log = b.log; rest = left } ≡ r → r.ended ≡ false
+  pub may_tell : (r : Run) (ended : Bool) (b : Sheet) (places : List (Option (NodePlace D))) (at : At) (n : NodeNo) (names : List Name) → {left : Rest} → record { ended = ended; nodes = b.nodes; log = b.log; rest = left } ≡ r → r.ended ≡ false
       → (ended ≡ false → Shows cells b.log b.nodes places × FilesShow cells b.log b.nodes places) → IsFresh at (printed b.log) → IsNode r.nodes n.0 → is_running n.0 (printed r.log) ≡ true → AreNamesAt cells (place_of places n.0) names
       → KeepsRule r.nodes (printed r.log) at (Files n names)
   may_tell r ended b places at n names view running pair fresh node up told =

@@ -9,9 +9,9 @@ use Rattle.history_rules.specs.Nodes.{Past, crashes}
 use Rattle.history_rules.specs.Lines.{same_at, before_start}
 use Rattle.history_rules.specs.Points.{operations_of_generation}
 use Rattle.history_rules.specs.Tickets.{Ticket, is_ticket, last_opened, while_alive, open_ticket, IsTicketOf}
-use Rattle.history_tables.specs.declared.lines.Begun.{Begun}
+use Rattle.history_tables.specs.declared.lines.BegunLine.{BegunLine}
 use Rattle.history_tables.specs.Begins.{begin, begun_by, open_line, start_by}
-use Rattle.cluster_nodes.specs.declared.held.Key.TheVariants.{Ticket as TicketKey, Search}
+use Rattle.cluster_nodes.specs.declared.held.HeldKey.TheVariants.{Ticket as TicketKey, Search}
 use Rattle.cluster_nodes.specs.Held.{same_key}
 use Rattle.cluster_state.specs.Lookups.{IsSearchAt, IsSearching}
 use Rattle.cluster_state.specs.State.{ticket_key}
@@ -45,7 +45,7 @@ ticket_opened past at n t v lane u w some is =
     is
 
 -- a line that has opened a ticket searches nothing
-opened_line : (b : Bool) (past : Past) (n : NodeNo) (t : TicketNo) (v : Version) (m w before accepted : ℕ) (old : Option Begun) → (t.0 == 0) ≡ false
+opened_line : (b : Bool) (past : Past) (n : NodeNo) (t : TicketNo) (v : Version) (m w before accepted : ℕ) (old : Option BegunLine) → (t.0 == 0) ≡ false
     → IsSearchAt m w (if b then begun_by (Opened n t v) before accepted old else old) → IsSearchAt m w old
 opened_line true past n t v m w before accepted old some is = go (t.0 == 0) some is
   where

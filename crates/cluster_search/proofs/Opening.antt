@@ -17,12 +17,12 @@ use Rattle.history_rules.specs.Tickets.{open_ticket, IsTicketOf}
 use Rattle.history_rules.specs.Legal.{KeepsRule, IsLegalPast}
 use Rattle.history_book.specs.Log.{Log, printed, shown}
 use Rattle.history_book.specs.Turns.{AreInTurn}
-use Rattle.cluster_nodes.specs.declared.held.Held.{Held}
-use Rattle.cluster_nodes.specs.declared.held.Key.{Key}
-use Rattle.cluster_nodes.specs.declared.held.Key.TheVariants.{Search}
+use Rattle.cluster_nodes.specs.declared.held.HeldTicket.{HeldTicket}
+use Rattle.cluster_nodes.specs.declared.held.HeldKey.{HeldKey}
+use Rattle.cluster_nodes.specs.declared.held.HeldKey.TheVariants.{Search}
 use Rattle.cluster_nodes.specs.declared.nodes.Node.{Node}
 use Rattle.cluster_nodes.specs.declared.nodes.Node.TheVariants.{Primary, Replica, Down}
-use Rattle.cluster_nodes.specs.declared.nodes.Place.{Place}
+use Rattle.cluster_nodes.specs.declared.nodes.NodePlace.{NodePlace}
 use Rattle.cluster_nodes.specs.Held.{same_key, held_number}
 use Rattle.cluster_state.specs.Lookups.{IsSearching}
 use Rattle.cluster_nodes.specs.Places.{searchers_of, tickets_of}
@@ -33,17 +33,17 @@ use Rattle.cluster_state.proofs.Frames.{node_same}
 use Rattle.cluster_search.proofs.Holding.{IsNewOr, holds_more, node_kept}
 
 -- what the log shows of a ticket after the entry: it is the new one, or it was there
-abbrev pub TicketsAfter : Past → Past → ℕ → Key → ℕ → Type 0
+abbrev pub TicketsAfter : Past → Past → ℕ → HeldKey → ℕ → Type 0
 TicketsAfter past now n key v = (lane u w : ℕ) → IsTicketOf n w (open_ticket lane u now) → IsNewOr (same_key key (ticket_key lane u)) v w (IsTicketOf n w (open_ticket lane u past))
 
-abbrev pub SearchesAfter : Past → Past → ℕ → Key → ℕ → Type 0
+abbrev pub SearchesAfter : Past → Past → ℕ → HeldKey → ℕ → Type 0
 SearchesAfter past now n key v = (a : At) (w : ℕ) → IsSearching now a n w → IsNewOr (same_key key (Search a)) v w (IsSearching past a n w)
 
 module _ {D : Type 0} (cells : D → Cells) where
-  opened_on : (size : ℕ) (log : Log) (at : At) (n : NodeNo) (t : TicketNo) (v : Version) (key : Key) (s : Searchers Shown) (after : List (Open Shown)) (held rows : List Held) (number : ℕ)
+  opened_on : (size : ℕ) (log : Log) (at : At) (n : NodeNo) (t : TicketNo) (v : Version) (key : HeldKey) (s : Searchers Shown) (after : List (Open Shown)) (held rows : List HeldTicket) (number : ℕ)
       → IsLegalPast size (printed log) → KeepsRule size (printed log) at (Opened n t v) → v.0 ≡ version_of n.0 (printed log)
       → is_some (ticket_at number s.tickets) ≡ false → after ≡ s.tickets ++ record { number = number; point = s.point } ∷ []
-      → ((k : Key) → held_number rows k ≡ (if same_key key k then Some number else held_number held k))
+      → ((k : HeldKey) → held_number rows k ≡ (if same_key key k then Some number else held_number held k))
       → TicketsAfter (printed log) (printed (shown at (Opened n t v) ∷ log)) n.0 key v.0 → SearchesAfter (printed log) (printed (shown at (Opened n t v) ∷ log)) n.0 key v.0
       → IsPointAt (printed log) (version_of n.0 (printed log)) s.point → HoldsTickets (printed log) n.0 s.tickets held → HoldsTickets (printed (shown at (Opened n t v) ∷ log)) n.0 after rows
   opened_on size log at n t v key s after held rows number legal keeps version fresh more holds opened searched point was =
@@ -56,10 +56,10 @@ module _ {D : Type 0} (cells : D → Cells) where
       })
       opened searched was
 
-  opened_tickets : (size : ℕ) (log : Log) (at : At) (n : NodeNo) (t : TicketNo) (v : Version) (key : Key) (x : Node D) (after : List (Open Shown)) (held rows : List Held) (number : ℕ)
+  opened_tickets : (size : ℕ) (log : Log) (at : At) (n : NodeNo) (t : TicketNo) (v : Version) (key : HeldKey) (x : Node D) (after : List (Open Shown)) (held rows : List HeldTicket) (number : ℕ)
       → IsLegalPast size (printed log) → KeepsRule size (printed log) at (Opened n t v) → v.0 ≡ version_of n.0 (printed log)
       → is_some (ticket_at number (tickets_of x)) ≡ false → IfSome (searchers_of x) (λ s. after ≡ s.tickets ++ record { number = number; point = s.point } ∷ [])
-      → ((k : Key) → held_number rows k ≡ (if same_key key k then Some number else held_number held k))
+      → ((k : HeldKey) → held_number rows k ≡ (if same_key key k then Some number else held_number held k))
       → TicketsAfter (printed log) (printed (shown at (Opened n t v) ∷ log)) n.0 key v.0 → SearchesAfter (printed log) (printed (shown at (Opened n t v) ∷ log)) n.0 key v.0
       → NodeShows cells log n.0 x → HoldsTickets (printed log) n.0 (tickets_of x) held → HoldsTickets (printed (shown at (Opened n t v) ∷ log)) n.0 after rows
   opened_tickets size log at n t v key (Primary p) after held rows number legal keeps version fresh more holds opened searched shows was =
@@ -69,7 +69,7 @@ module _ {D : Type 0} (cells : D → Cells) where
   opened_tickets size log at n t v key (Down d) after held rows number legal keeps version fresh more holds opened searched shows was =
       absurd (true≢false (sym keeps.running ∙ shows.down))
 
-  pub opened_place : (size : ℕ) (log : Log) (at : At) (n : NodeNo) (t : TicketNo) (v : Version) (key : Key) (old new : Place D)
+  pub opened_place : (size : ℕ) (log : Log) (at : At) (n : NodeNo) (t : TicketNo) (v : Version) (key : HeldKey) (old new : NodePlace D)
       → IsLegalPast size (printed log) → AreInTurn (printed log) → KeepsRule size (printed log) at (Opened n t v) → start_entry at (printed log) ≢ Some Publishing → v.0 ≡ version_of n.0 (printed log)
       → KeepsNode cells old.node new.node → HoldsMore key old new
       → TicketsAfter (printed log) (printed (shown at (Opened n t v) ∷ log)) n.0 key v.0 → SearchesAfter (printed log) (printed (shown at (Opened n t v) ∷ log)) n.0 key v.0

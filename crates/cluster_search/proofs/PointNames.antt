@@ -13,18 +13,18 @@ use Rattle.segment_infos.specs.Files.{files_of_segment, AreFilesOf}
 use Rattle.seg_reader.specs.Shown.{Shown}
 use Rattle.seg_reader.specs.Stands.{IsSegmentIn}
 use Rattle.searcher_switch.specs.declared.open.Open.{Open}
-use Rattle.searcher_switch.specs.declared.open.Point.{Point}
+use Rattle.searcher_switch.specs.declared.open.SearchPoint.{SearchPoint}
 use Rattle.searcher_switch.specs.Tickets.{tickets_without}
-use Rattle.primary_state.specs.declared.parts.Parts.{Parts as PrimaryParts}
+use Rattle.primary_state.specs.declared.parts.PrimaryParts.{PrimaryParts}
 use Rattle.primary_state.specs.Primary.{IsPrimary, loose_of}
-use Rattle.replica_state.specs.declared.parts.Parts.{Parts as ReplicaParts}
+use Rattle.replica_state.specs.declared.parts.ReplicaParts.{ReplicaParts}
 use Rattle.replica_state.specs.Replica.{IsWholeReplica}
 use Rattle.history_rules.specs.Nodes.{Past}
 use Rattle.history_book.specs.Log.{Log}
-use Rattle.cluster_nodes.specs.declared.held.Key.{Key}
+use Rattle.cluster_nodes.specs.declared.held.HeldKey.{HeldKey}
 use Rattle.cluster_nodes.specs.declared.nodes.Node.{Node}
 use Rattle.cluster_nodes.specs.declared.nodes.Node.TheVariants.{Primary, Replica, Down}
-use Rattle.cluster_nodes.specs.declared.nodes.Place.{Place}
+use Rattle.cluster_nodes.specs.declared.nodes.NodePlace.{NodePlace}
 use Rattle.cluster_nodes.specs.Held.{held_number}
 use Rattle.cluster_nodes.specs.Places.{tickets_of}
 use Rattle.cluster_nodes.specs.Changes.{KeepsNode, OpensTicket, HoldsMore, ClosesTicket, HoldsLess}
@@ -46,7 +46,7 @@ any_passes {X} p (y ∷ xs) x (i, lt, e) passes = at i lt e (λ k lt' e'. any_pa
 -- ---- points
 
 -- a point whose readers are those of segments of which its names are the files
-named_by : (reads : Name → Content) (infos : Infos) (point : Point Shown) → AreFilesOf infos point.names → AllZip (IsSegmentIn reads) infos.segs point.readers → NamesDocuments point
+named_by : (reads : Name → Content) (infos : Infos) (point : SearchPoint Shown) → AreFilesOf infos point.names → AllZip (IsSegmentIn reads) infos.segs point.readers → NamesDocuments point
 named_by reads infos point files zip = by infos.segs (λ q. (files.named q).1) zip
   where
     by : (records : List SegRecord) → ((q : Name) → Contains (flat_map files_of_segment records) q → Contains point.names q) → AllZip (IsSegmentIn reads) records point.readers → NamesDocuments point
@@ -79,7 +79,7 @@ module _ {D : Type 0} (cells : D → Cells) where
   loose_kept (Down d) (Primary q) keeps = absurd keeps
   loose_kept (Down d) (Replica s) keeps = absurd keeps
 
-  more_tickets : (number : ℕ) (point : Point Shown) (old new : List (Open Shown)) → new ≡ old ++ record { number = number; point = point } ∷ [] → NamesDocuments point
+  more_tickets : (number : ℕ) (point : SearchPoint Shown) (old new : List (Open Shown)) → new ≡ old ++ record { number = number; point = point } ∷ [] → NamesDocuments point
       → (o : Open Shown) → Contains new o → Contains old o ⊎ NamesDocuments o.point
   more_tickets number point old new is named o held =
       elim (Contains-push_cases old (record { number = number; point = point }) o (subst (λ (ts : List (Open Shown)). Contains ts o) is held)) [
@@ -88,7 +88,7 @@ module _ {D : Type 0} (cells : D → Cells) where
       ]
 
   -- a ticket that is opened is on the point that is searched
-  pub opened_holds : (now : Past) (log : Log) (n : ℕ) (key : Key) (x y : Place D) → NodeShows cells log n x.node → KeepsNode cells x.node y.node → HoldsMore key x y → HoldsFrom cells now x.node y.node
+  pub opened_holds : (now : Past) (log : Log) (n : ℕ) (key : HeldKey) (x y : NodePlace D) → NodeShows cells log n x.node → KeepsNode cells x.node y.node → HoldsMore key x y → HoldsFrom cells now x.node y.node
   opened_holds now log n key x y shows keeps holds = record {
     tickets = by x.node y.node holds.number holds.opens shows keeps;
     loose = λ seg held. inl (subst (λ (ns : List ℕ). Contains ns seg) (loose_kept x.node y.node keeps) held);
@@ -120,7 +120,7 @@ module _ {D : Type 0} (cells : D → Cells) where
       by true held rest = after held
       by false held rest = front held.0 held.1 held.2 rest
 
-  pub closed_holds : (now : Past) (key : Key) (x y : Place D) → KeepsNode cells x.node y.node → HoldsLess key x y → HoldsFrom cells now x.node y.node
+  pub closed_holds : (now : Past) (key : HeldKey) (x y : NodePlace D) → KeepsNode cells x.node y.node → HoldsLess key x y → HoldsFrom cells now x.node y.node
   closed_holds now key x y keeps less = record {
     tickets = λ o held. inl (by (held_number x.held.items key) less.closed o held);
     loose = λ seg held. inl (subst (λ (ns : List ℕ). Contains ns seg) (loose_kept x.node y.node keeps) held);

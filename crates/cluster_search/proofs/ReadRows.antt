@@ -21,7 +21,7 @@ use Rattle.history_rules.specs.Started.{StartedSearch}
 use Rattle.history_rules.specs.Legal.{KeepsRule, IsLegalPast}
 use Rattle.history_tables.specs.declared.lines.Start.{Start}
 use Rattle.history_tables.specs.declared.lines.Start.TheVariants.{Publishing as PublishStart, Copying as CopyStart, Settling as SettleStart, Searching as SearchStart, Asking as AskStart, Committing as CommitStart}
-use Rattle.history_tables.specs.declared.lines.Begun.{Begun}
+use Rattle.history_tables.specs.declared.lines.BegunLine.{BegunLine}
 use Rattle.history_tables.specs.declared.tickets.Opening.{Opening}
 use Rattle.history_tables.specs.Begins.{event_of, open_line}
 use Rattle.history_tables.specs.Openings.{ticket_of}
@@ -101,7 +101,7 @@ asking_start size past at query answer n t v (SearchStart m w) legal last line i
 asking_start size past at query answer n t v (CommitStart m w) legal last line is same right = absurd (cc)
 
 -- how the line has started that is to be answered
-pub search_by : (size : ℕ) (past : Past) (at : At) (query : Query) (answer : Answer) (b : Begun) (last : Option Event) → last_of_line at past ≡ last → IsLegalPast size past
+pub search_by : (size : ℕ) (past : Past) (at : At) (query : Query) (answer : Answer) (b : BegunLine) (last : Option Event) → last_of_line at past ≡ last → IsLegalPast size past
     → ScansAt past last query answer → open_line at past ≡ Some b → IsSearchBy size past at query answer b.start
 search_by size past at query answer b (Some (Opened n t v)) is legal scans line =
     let started = last_started at past (Opened n t v) (ap (λ (k : ℕ). k == 0) scans.0) is in
@@ -119,16 +119,16 @@ search_open past at query answer (Some (Opened n t v)) is scans = (last_started 
 search_open past at query answer (Some (Asking n t v)) is scans = (last_started at past (Asking n t v) refl is).is_open
 search_open past at query answer last is scans = absurd scans
 
-pub line_at : (at : At) (log l : Log) (o : Option Begun) → l ≡ log → o ≡ open_line at (printed l) → open_line at (printed log) ≡ o
+pub line_at : (at : At) (log l : Log) (o : Option BegunLine) → l ≡ log → o ≡ open_line at (printed l) → open_line at (printed log) ≡ o
 line_at at log l o same is = sym (is ∙ ap (λ (x : Log). open_line at (printed x)) same)
 
-pub search_found : (size m : ℕ) (at : At) (query : Query) (answer : Answer) (log l k : Log) (b : Begun) (start : Start) (o : Option Begun) → m ≡ size → l ≡ log → k ≡ log → IsLegalPast m (printed l)
+pub search_found : (size m : ℕ) (at : At) (query : Query) (answer : Answer) (log l k : Log) (b : BegunLine) (start : Start) (o : Option BegunLine) → m ≡ size → l ≡ log → k ≡ log → IsLegalPast m (printed l)
     → ScansAt (printed log) (last_of_line at (printed log)) query answer → o ≡ open_line at (printed k) → o ≡ Some b → b.start ≡ start → IsSearchBy size (printed log) at query answer start
 search_found size m at query answer log l k b start o nodes same like legal scans line found is =
     subst (IsSearchBy size (printed log) at query answer) is
     (search_by size (printed log) at query answer b (last_of_line at (printed log)) refl (legal_at size m log l nodes same legal) scans (line_at at log k o like line ∙ found))
 
-pub search_there : (at : At) (query : Query) (answer : Answer) (log k : Log) (o : Option Begun) → k ≡ log → ScansAt (printed log) (last_of_line at (printed log)) query answer → o ≡ open_line at (printed k) → o ≢ None
+pub search_there : (at : At) (query : Query) (answer : Answer) (log k : Log) (o : Option BegunLine) → k ≡ log → ScansAt (printed log) (last_of_line at (printed log)) query answer → o ≡ open_line at (printed k) → o ≢ None
 search_there at query answer log k o like scans line none =
     search_open (printed log) at query answer (last_of_line at (printed log)) refl scans (line_at at log k o like line ∙ none)
 

@@ -14,13 +14,13 @@ use Rattle.history_book.specs.Log.{printed, shown}
 use Rattle.merge_tasks.specs.Merging.{Sheet}
 use Rattle.history_book.specs.Laws.{IsFresh}
 use Rattle.history_book.specs.Turns.{AreInTurn}
-use Rattle.cluster_nodes.specs.declared.nodes.Place.{Place}
+use Rattle.cluster_nodes.specs.declared.nodes.NodePlace.{NodePlace}
 use Rattle.cluster_nodes.specs.Places.{place_of}
 use Rattle.cluster_state.specs.Run.{Rest, Run}
 use Rattle.cluster_state.specs.State.{Shows}
 use Rattle.cluster_state.specs.Files.{FilesShow}
 use Rattle.cluster_nodes.specs.KeptFiles.{KeepsNodeFiles}
-use Rattle.cluster_nodes.specs.declared.held.Key.{Key}
+use Rattle.cluster_nodes.specs.declared.held.HeldKey.{HeldKey}
 use Rattle.cluster_nodes.specs.Changes.{KeepsNode, HoldsMore}
 use Rattle.cluster_state.proofs.Frames.{PutsBack, place_at}
 use Rattle.cluster_search.proofs.PointNames.{opened_holds}
@@ -29,18 +29,18 @@ use Rattle.cluster_search.proofs.TicketPaths.{may_ask}
 use Rattle.cluster_state.proofs.Turning.{fresh_turn, past_has}
 
 module _ {D : Type 0} (cells : D → Cells) where
-  pub opened_files : (r : Run) (ended : Bool) (b0 b1 b2 : Sheet) (old mid new : List (Option (Place D))) (at : At) (n : NodeNo) (t : TicketNo) (v : Version) (x y : Place D)
+  pub opened_files : (r : Run) (ended : Bool) (b0 b1 b2 : Sheet) (old mid new : List (Option (NodePlace D))) (at : At) (n : NodeNo) (t : TicketNo) (v : Version) (x y : NodePlace D)
       → {left : Rest} → record { ended = ended; nodes = b0.nodes; log = b0.log; rest = left } ≡ r → r.ended ≡ false → (ended ≡ false → Shows cells b0.log b0.nodes old) → (ended ≡ false → FilesShow cells b0.log b0.nodes old)
       → b1.log ≡ b0.log → b1.nodes ≡ b0.nodes → b2.log ≡ shown at (Opened n t v) ∷ b1.log → b2.nodes ≡ b1.nodes → IsLegalPast b1.nodes (printed b1.log) → AreInTurn (printed b1.log)
       → IsFresh at (printed b0.log) → KeepsRule r.nodes (printed r.log) at (Opened n t v)
-      → PutsBack cells old mid new n.0 y → place_of old n.0 ≡ Some x → KeepsNodeFiles cells x.node y.node → KeepsNode cells x.node y.node → (key : Key) → HoldsMore key x y → FilesShow cells b2.log b2.nodes new
+      → PutsBack cells old mid new n.0 y → place_of old n.0 ≡ Some x → KeepsNodeFiles cells x.node y.node → KeepsNode cells x.node y.node → (key : HeldKey) → HoldsMore key x y → FilesShow cells b2.log b2.nodes new
   opened_files r ended b0 b1 b2 old mid new at n t v x y view running shows files e1 n1 e2 n2 legal turns fresh keeps put there kept node key holds =
       files_moved cells r ended b0 b1 b2 old mid new at (Opened n t v) n.0 y x view running shows files e1 n1 e2 n2 legal turns keeps
       (fresh_turn (printed r.log) at (Opened n t v) (past_has (IsFresh at) r ended b0 view fresh) tt) (λ m. refl) (λ m. refl)
       (flights_of cells r ended b0 b1 at view e1 n1 legal turns (past_has (IsFresh at) r ended b0 view fresh).begun) put keeps.node there kept
       (opened_holds cells (printed (shown at (Opened n t v) ∷ r.log)) r.log n.0 key x y (place_at cells r ended b0.nodes n.0 b0.log old x view running shows keeps.node there).node_shows node holds)
 
-  pub ask_files : (r : Run) (ended : Bool) (b0 b1 b2 : Sheet) (places : List (Option (Place D))) (at : At) (t : TicketNo) (o : Opening)
+  pub ask_files : (r : Run) (ended : Bool) (b0 b1 b2 : Sheet) (places : List (Option (NodePlace D))) (at : At) (t : TicketNo) (o : Opening)
       → {left : Rest} → record { ended = ended; nodes = b0.nodes; log = b0.log; rest = left } ≡ r → r.ended ≡ false → (ended ≡ false → Shows cells b0.log b0.nodes places) → (ended ≡ false → FilesShow cells b0.log b0.nodes places)
       → b1.log ≡ b0.log → b1.nodes ≡ b0.nodes → b2.log ≡ shown at (Asking o.node t o.version) ∷ b1.log → b2.nodes ≡ b1.nodes → IsLegalPast b0.nodes (printed b0.log)
       → IsLegalPast b1.nodes (printed b1.log) → AreInTurn (printed b1.log) → IsFresh at (printed b0.log) → open_ticket at.lane.0 t.0 (printed r.log) ≡ Some (ticket_of o) → FilesShow cells b2.log b2.nodes places

@@ -22,9 +22,9 @@ use Rattle.history_book.specs.Log.{Log, printed, shown}
 use Rattle.merge_tasks.specs.Merging.{Sheet}
 use Rattle.history_book.specs.Laws.{IsFresh}
 use Rattle.history_book.specs.Turns.{AreInTurn}
-use Rattle.cluster_nodes.specs.declared.held.Key.{Key}
-use Rattle.cluster_nodes.specs.declared.held.Key.TheVariants.{Ticket as TicketKey, Search}
-use Rattle.cluster_nodes.specs.declared.nodes.Place.{Place}
+use Rattle.cluster_nodes.specs.declared.held.HeldKey.{HeldKey}
+use Rattle.cluster_nodes.specs.declared.held.HeldKey.TheVariants.{Ticket as TicketKey, Search}
+use Rattle.cluster_nodes.specs.declared.nodes.NodePlace.{NodePlace}
 use Rattle.cluster_nodes.specs.Held.{held_number}
 use Rattle.cluster_nodes.specs.Places.{place_of, searchers_of, tickets_of}
 use Rattle.cluster_state.specs.Run.{Rest, Run}
@@ -72,7 +72,7 @@ pub asks_at : (r : Run) (ended : Bool) (b0 b1 : Sheet) (at : At) (t : TicketNo) 
 asks_at r ended b0 b1 at t o view e1 n1 legal fresh held = rule_at r ended b0 b1 at (Asking o.node t o.version) view e1 n1 (may_ask r ended b0 at t o view legal fresh held)
 
 module _ {D : Type 0} (cells : D → Cells) where
-  opened_path : (r : Run) (ended : Bool) (b0 b1 b2 : Sheet) (old mid new : List (Option (Place D))) (at : At) (n : NodeNo) (t : TicketNo) (v : Version) (key : Key) (x y : Place D)
+  opened_path : (r : Run) (ended : Bool) (b0 b1 b2 : Sheet) (old mid new : List (Option (NodePlace D))) (at : At) (n : NodeNo) (t : TicketNo) (v : Version) (key : HeldKey) (x y : NodePlace D)
       → {left : Rest} → record { ended = ended; nodes = b0.nodes; log = b0.log; rest = left } ≡ r → r.ended ≡ false → (ended ≡ false → Shows cells b0.log b0.nodes old)
       → b1.log ≡ b0.log → b1.nodes ≡ b0.nodes → b2.log ≡ shown at (Opened n t v) ∷ b1.log → b2.nodes ≡ b1.nodes → IsLegalPast b1.nodes (printed b1.log) → AreInTurn (printed b1.log)
       → IsFresh at (printed b0.log) → KeepsRule r.nodes (printed r.log) at (Opened n t v)
@@ -84,7 +84,7 @@ module _ {D : Type 0} (cells : D → Cells) where
       (λ m apart here. line) (λ m apart. refl) (λ m apart. apart) put keeps.node there
       (λ all order was. opened_place cells r.nodes r.log at n t v key x y all order keeps line keeps.searched same more opened searched was)
 
-  pub ticket_path : (r : Run) (ended : Bool) (b0 b1 b2 : Sheet) (old mid new : List (Option (Place D))) (at : At) (n : NodeNo) (t : TicketNo) (v : Version) (x y : Place D)
+  pub ticket_path : (r : Run) (ended : Bool) (b0 b1 b2 : Sheet) (old mid new : List (Option (NodePlace D))) (at : At) (n : NodeNo) (t : TicketNo) (v : Version) (x y : NodePlace D)
       → {left : Rest} → record { ended = ended; nodes = b0.nodes; log = b0.log; rest = left } ≡ r → r.ended ≡ false → (ended ≡ false → Shows cells b0.log b0.nodes old)
       → b1.log ≡ b0.log → b1.nodes ≡ b0.nodes → b2.log ≡ shown at (Opened n t v) ∷ b1.log → b2.nodes ≡ b1.nodes → IsLegalPast b1.nodes (printed b1.log) → AreInTurn (printed b1.log)
       → IsFresh at (printed b0.log) → KeepsRule r.nodes (printed r.log) at (Opened n t v) → t.0 ≢ 0
@@ -94,7 +94,7 @@ module _ {D : Type 0} (cells : D → Cells) where
       opened_path r ended b0 b1 b2 old mid new at n t v (TicketKey at.lane t) x y view running shows e1 n1 e2 n2 legal turns fresh keeps
       (λ lane u w is. ticket_opened (printed r.log) at n t v lane u w some is) (λ a w is. ticket_searched (printed r.log) at n t v a w some is) put there same more
 
-  pub search_path : (r : Run) (ended : Bool) (b0 b1 b2 : Sheet) (old mid new : List (Option (Place D))) (at : At) (n : NodeNo) (v : Version) (x y : Place D)
+  pub search_path : (r : Run) (ended : Bool) (b0 b1 b2 : Sheet) (old mid new : List (Option (NodePlace D))) (at : At) (n : NodeNo) (v : Version) (x y : NodePlace D)
       → {left : Rest} → record { ended = ended; nodes = b0.nodes; log = b0.log; rest = left } ≡ r → r.ended ≡ false → (ended ≡ false → Shows cells b0.log b0.nodes old)
       → b1.log ≡ b0.log → b1.nodes ≡ b0.nodes → b2.log ≡ shown at (Opened n (record { 0 = 0 }) v) ∷ b1.log → b2.nodes ≡ b1.nodes → IsLegalPast b1.nodes (printed b1.log) → AreInTurn (printed b1.log)
       → IsFresh at (printed b0.log) → KeepsRule r.nodes (printed r.log) at (Opened n (record { 0 = 0 }) v)
@@ -104,7 +104,7 @@ module _ {D : Type 0} (cells : D → Cells) where
       (λ lane u w is. search_ticket (printed r.log) at n v lane u w is) (λ a w is. search_opened (printed r.log) at n v a w is) put there same more
 
   -- a ticket was given back
-  pub without_path : (r : Run) (ended : Bool) (b0 b1 b2 : Sheet) (old mid new : List (Option (Place D))) (at : At) (e : Event) (n : ℕ) (key : Key) (x y : Place D)
+  pub without_path : (r : Run) (ended : Bool) (b0 b1 b2 : Sheet) (old mid new : List (Option (NodePlace D))) (at : At) (e : Event) (n : ℕ) (key : HeldKey) (x y : NodePlace D)
       → {left : Rest} → record { ended = ended; nodes = b0.nodes; log = b0.log; rest = left } ≡ r → r.ended ≡ false → (ended ≡ false → Shows cells b0.log b0.nodes old)
       → b1.log ≡ b0.log → b1.nodes ≡ b0.nodes → b2.log ≡ shown at e ∷ b1.log → b2.nodes ≡ b1.nodes → IsLegalPast b1.nodes (printed b1.log) → AreInTurn (printed b1.log)
       → KeepsRule r.nodes (printed r.log) at e → start_entry at (printed r.log) ≢ Some Publishing → ((p : Option NodeNo) (m : ℕ) → moves e p m ≡ false) → ((m : ℕ) → moves_tickets e m ≡ false)
@@ -118,45 +118,45 @@ module _ {D : Type 0} (cells : D → Cells) where
   -- ---- what is at hand
 
   -- a running node has searchers
-  pub running_at : (r : Run) (ended : Bool) (size n : ℕ) (log : Log) (places : List (Option (Place D))) (x : Place D) → {left : Rest} → record { ended = ended; nodes = size; log = log; rest = left } ≡ r → r.ended ≡ false
+  pub running_at : (r : Run) (ended : Bool) (size n : ℕ) (log : Log) (places : List (Option (NodePlace D))) (x : NodePlace D) → {left : Rest} → record { ended = ended; nodes = size; log = log; rest = left } ≡ r → r.ended ≡ false
       → (ended ≡ false → Shows cells log size places) → IsNode r.nodes n → is_running n (printed r.log) ≡ true → place_of places n ≡ Some x → IsSome (searchers_of x.node)
   running_at r ended size n log places x view running shows node up there =
       running_searches cells r.log n x.node up (place_at cells r ended size n log places x view running shows node there).node_shows
 
   -- what a node holds may be given back
-  pub gives_back_at : (r : Run) (ended : Bool) (size n : ℕ) (log : Log) (places : List (Option (Place D))) (key : Key) (x : Place D) → {left : Rest} → record { ended = ended; nodes = size; log = log; rest = left } ≡ r → r.ended ≡ false
+  pub gives_back_at : (r : Run) (ended : Bool) (size n : ℕ) (log : Log) (places : List (Option (NodePlace D))) (key : HeldKey) (x : NodePlace D) → {left : Rest} → record { ended = ended; nodes = size; log = log; rest = left } ≡ r → r.ended ≡ false
       → (ended ≡ false → Shows cells log size places) → IsNode r.nodes n → place_of places n ≡ Some x → IfSome (held_number x.held.items key) (λ number. is_some (ticket_at number (tickets_of x.node)) ≡ true)
   gives_back_at r ended size n log places key x view running shows node there = gives_back cells r.log n key x (place_at cells r ended size n log places x view running shows node there)
 
   -- ---- a search that starts
 
-  pub search_held : (new mid : List (Option (Place D))) (n : ℕ) (key : Key) (x y : Place D) → ((m : ℕ) → place_of new m ≡ (if n == m then Some y else place_of mid m)) → IsSome (searchers_of x.node) → HoldsMore key x y
+  pub search_held : (new mid : List (Option (NodePlace D))) (n : ℕ) (key : HeldKey) (x y : NodePlace D) → ((m : ℕ) → place_of new m ≡ (if n == m then Some y else place_of mid m)) → IsSome (searchers_of x.node) → HoldsMore key x y
       → HoldsTicket (place_of new n) key
-  search_held new mid n key x y there runs more = subst (λ (o : Option (Place D)). HoldsTicket o key) (sym (there_now cells new mid n y there)) (opened_held cells key x y runs more)
+  search_held new mid n key x y there runs more = subst (λ (o : Option (NodePlace D)). HoldsTicket o key) (sym (there_now cells new mid n y there)) (opened_held cells key x y runs more)
 
-  pub search_reads : (r : Run) (ended : Bool) (size n : ℕ) (log : Log) (old mid new : List (Option (Place D))) (key : Key) (x y : Place D) (lease : Lease Shown) → {left : Rest} → record { ended = ended; nodes = size; log = log; rest = left } ≡ r → r.ended ≡ false
+  pub search_reads : (r : Run) (ended : Bool) (size n : ℕ) (log : Log) (old mid new : List (Option (NodePlace D))) (key : HeldKey) (x y : NodePlace D) (lease : Lease Shown) → {left : Rest} → record { ended = ended; nodes = size; log = log; rest = left } ≡ r → r.ended ≡ false
       → (ended ≡ false → Shows cells log size old) → IsNode r.nodes n → is_running n (printed r.log) ≡ true → place_of old n ≡ Some x
       → ((m : ℕ) → place_of new m ≡ (if n == m then Some y else place_of mid m)) → HoldsMore key x y → IsLeaseUnder (place_of new n) key lease → ReadsAt (printed r.log) (version_of n (printed r.log)) lease
   search_reads r ended size n log old mid new key x y lease view running shows node up here there more under =
       opened_reads cells r.log n key x y lease (place_at cells r ended size n log old x view running shows node here) (running_at r ended size n log old x view running shows node up here) more
-      (subst (λ (o : Option (Place D)). IsLeaseUnder o key lease) (there_now cells new mid n y there) under)
+      (subst (λ (o : Option (NodePlace D)). IsLeaseUnder o key lease) (there_now cells new mid n y there) under)
 
   -- ---- a search of a ticket
 
-  pub ask_held : (r : Run) (ended : Bool) (b : Sheet) (places : List (Option (Place D))) (at : At) (t : TicketNo) (o : Opening) → {left : Rest} → record { ended = ended; nodes = b.nodes; log = b.log; rest = left } ≡ r → r.ended ≡ false
+  pub ask_held : (r : Run) (ended : Bool) (b : Sheet) (places : List (Option (NodePlace D))) (at : At) (t : TicketNo) (o : Opening) → {left : Rest} → record { ended = ended; nodes = b.nodes; log = b.log; rest = left } ≡ r → r.ended ≡ false
       → (ended ≡ false → Shows cells b.log b.nodes places) → IsLegalPast b.nodes (printed b.log) → open_ticket at.lane.0 t.0 (printed r.log) ≡ Some (ticket_of o) → HoldsTicket (place_of places o.node.0) (TicketKey at.lane t)
   ask_held r ended b places at t o view running shows legal held =
       ticket_held cells r.log o.node.0 at.lane.0 t.0 o.version.0 (place_of places o.node.0)
       ((was cells r ended b.nodes b.log places view running shows).each o.node.0 (ask_node r ended b at t o view legal held)) (ticket_is at.lane.0 t.0 (printed r.log) (ticket_of o) held)
 
-  pub ask_reads : (r : Run) (ended : Bool) (b : Sheet) (places : List (Option (Place D))) (at : At) (t : TicketNo) (o : Opening) (lease : Lease Shown) → {left : Rest} → record { ended = ended; nodes = b.nodes; log = b.log; rest = left } ≡ r → r.ended ≡ false
+  pub ask_reads : (r : Run) (ended : Bool) (b : Sheet) (places : List (Option (NodePlace D))) (at : At) (t : TicketNo) (o : Opening) (lease : Lease Shown) → {left : Rest} → record { ended = ended; nodes = b.nodes; log = b.log; rest = left } ≡ r → r.ended ≡ false
       → (ended ≡ false → Shows cells b.log b.nodes places) → IsLegalPast b.nodes (printed b.log) → open_ticket at.lane.0 t.0 (printed r.log) ≡ Some (ticket_of o) → IsLeaseUnder (place_of places o.node.0) (TicketKey at.lane t) lease
       → ReadsAt (printed r.log) o.version.0 lease
   ask_reads r ended b places at t o lease view running shows legal held under =
       ticket_reads cells r.log o.node.0 at.lane.0 t.0 o.version.0 lease (place_of places o.node.0)
       ((was cells r ended b.nodes b.log places view running shows).each o.node.0 (ask_node r ended b at t o view legal held)) (ticket_is at.lane.0 t.0 (printed r.log) (ticket_of o) held) under
 
-  pub ask_path : (r : Run) (ended : Bool) (b0 b1 b2 : Sheet) (places : List (Option (Place D))) (at : At) (t : TicketNo) (o : Opening)
+  pub ask_path : (r : Run) (ended : Bool) (b0 b1 b2 : Sheet) (places : List (Option (NodePlace D))) (at : At) (t : TicketNo) (o : Opening)
       → {left : Rest} → record { ended = ended; nodes = b0.nodes; log = b0.log; rest = left } ≡ r → r.ended ≡ false → (ended ≡ false → Shows cells b0.log b0.nodes places)
       → b1.log ≡ b0.log → b1.nodes ≡ b0.nodes → b2.log ≡ shown at (Asking o.node t o.version) ∷ b1.log → b2.nodes ≡ b1.nodes → IsLegalPast b0.nodes (printed b0.log) → AreInTurn (printed b0.log)
       → IsLegalPast b1.nodes (printed b1.log) → AreInTurn (printed b1.log) → IsFresh at (printed b0.log) → open_ticket at.lane.0 t.0 (printed r.log) ≡ Some (ticket_of o) → Shows cells b2.log b2.nodes places

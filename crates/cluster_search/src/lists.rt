@@ -14,8 +14,8 @@ use history_rules::Event;
 use nrt_base::{At, NoMemory, NodeNo};
 use std::alloc::Global;
 
-/// Appends `Files` with the names in the directory of the running node `n`, ascending. The directory is not called. An error
-/// is want of memory: the cluster has ended, and its log is as before.
+/// Appends `Files` with the names in the directory of the running node `n`, ascending. The directory is not called. It
+/// fails when out of memory: the cluster has ended, and its log is as before.
 pub fn list_files<D: FaultDir + Drop>(
     alloc: Global,
     cluster: &mut ClusterState<D>,

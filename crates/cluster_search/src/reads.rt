@@ -16,7 +16,7 @@ ghost use Rattle.cluster_state.specs.Moves.{moves, moves_tickets, EndsKey};
 ghost use Rattle.cluster_state.specs.FileChanges.{keeps_jobs, keeps_commits};
 ghost use Rattle.merge_tasks.specs.TaskLog.{is_drained};
 
-use cluster_nodes::{Key, give_ticket_back, hold_ticket, lease_in, put, take};
+use cluster_nodes::{HeldKey, give_ticket_back, hold_ticket, lease_in, put, take};
 use cluster_state::ClusterState;
 use disk_model::FaultDir;
 use history_book::Opening;
@@ -28,7 +28,7 @@ use std::alloc::Global;
 
 /// Opens ticket `t` of the lane of `at`, on the point that the running node `n` searches, and appends `Opened` with that
 /// point's version. `t` is above 0, and the lane has no open ticket of that number. The point's files stay until the ticket
-/// is closed or the node crashes. An error is want of memory: the cluster has ended, and its log is as before.
+/// is closed or the node crashes. It fails when out of memory: the cluster has ended, and its log is as before.
 pub fn open_ticket<D: FaultDir + Drop>(
     alloc: Global,
     cluster: &mut ClusterState<D>,
@@ -51,7 +51,7 @@ pub fn open_ticket<D: FaultDir + Drop>(
     let v = Version(book.version(n));
     cluster.ended = true;
     cluster.ledger.reserve(1)?;
-    let key = Key::Ticket { lane: at.lane, t };
+    let key = HeldKey::Ticket { lane: at.lane, t };
     let mut place = take(&mut cluster.places, n);
     let holding = hold_ticket(alloc, &mut place, key);
     put(&mut cluster.places, n, place);
@@ -62,8 +62,8 @@ pub fn open_ticket<D: FaultDir + Drop>(
 }
 
 /// Starts a search of the line `at` on the point that the running node `n` searches, appends `Opened` with ticket 0 and that
-/// point's version, and hands the point out. Its files stay until the search is answered or the node crashes. An error is
-/// want of memory: the cluster has ended, and its log is as before.
+/// point's version, and hands the point out. Its files stay until the search is answered or the node crashes. It fails when
+/// out of memory: the cluster has ended, and its log is as before.
 pub fn open_search<D: FaultDir + Drop>(
     alloc: Global,
     cluster: &mut ClusterState<D>,
@@ -84,7 +84,7 @@ pub fn open_search<D: FaultDir + Drop>(
     let book = cluster.ledger.book();
     book.is_fresh(at);
     let v = Version(book.version(n));
-    let key = Key::Search { at };
+    let key = HeldKey::Search { at };
     cluster.ended = true;
     cluster.ledger.reserve(1)?;
     let mut place = take(&mut cluster.places, n);
@@ -99,7 +99,7 @@ pub fn open_search<D: FaultDir + Drop>(
 }
 
 /// Starts a search of the line `at` under the lane's open ticket `t`, whose opening this is, appends `Asking` with the
-/// ticket's node and version, and hands out the point on which it was opened. An error is want of memory: the cluster has
+/// ticket's node and version, and hands out the point on which it was opened. It fails when out of memory: the cluster has
 /// ended, and its log is as before.
 pub fn ask_ticket<D: FaultDir + Drop>(
     alloc: Global,
@@ -124,7 +124,7 @@ pub fn ask_ticket<D: FaultDir + Drop>(
         version: v,
         ..
     } = opening;
-    let key = Key::Ticket { lane: at.lane, t };
+    let key = HeldKey::Ticket { lane: at.lane, t };
     cluster.ended = true;
     cluster.ledger.reserve(1)?;
     let lease = lease_in(alloc, &cluster.places, n, key)?;
@@ -134,13 +134,13 @@ pub fn ask_ticket<D: FaultDir + Drop>(
 }
 
 /// Appends an entry that moves no node and starts no line, and gives back the ticket of node `n` that is held for `key`, if
-/// one is: after the entry nothing of the history needs it. An error is want of memory: the cluster has ended, and its log
+/// one is: after the entry nothing of the history needs it. It fails when out of memory: the cluster has ended, and its log
 /// is as before.
 pub fn note_without<D: FaultDir + Drop>(
     cluster: &mut ClusterState<D>,
     at: At,
     n: NodeNo,
-    key: Key,
+    key: HeldKey,
     event: Event,
 ) -> Result<(), NoMemory>
     requires running { cluster.old.ended ≡ false }

@@ -12,7 +12,7 @@ ghost use Rattle.cluster_state.specs.Run.{IsNow, IsEnded};
 ghost use Rattle.cluster_state.specs.Calls.{SearchStarts, AskStarts, ScansAt, AnswerEnds};
 
 use crate::reads::{ask_ticket, note_without, open_search};
-use cluster_nodes::Key;
+use cluster_nodes::HeldKey;
 use cluster_state::{ClusterState, Turn, refuse_turn};
 use disk_model::FaultDir;
 use documents::{Answer, Query};
@@ -133,7 +133,7 @@ fn end_search<D: FaultDir + Drop>(
         answer,
     };
     if t.0 == 0 {
-        note_without(state, at, n, Key::Search { at }, event)
+        note_without(state, at, n, HeldKey::Search { at }, event)
     } else {
         state.note(at, event)
     }

@@ -9,7 +9,7 @@ ghost use Rattle.cluster_state.specs.Run.{IsNow, IsEnded};
 ghost use Rattle.cluster_state.specs.Calls.{open_event, close_by};
 
 use crate::reads::{note_without, open_ticket};
-use cluster_nodes::Key;
+use cluster_nodes::HeldKey;
 use cluster_state::{ClusterState, refuse};
 use disk_model::FaultDir;
 use history_rules::{Cause, Event};
@@ -59,7 +59,7 @@ pub fn ticket_close<D: FaultDir + Drop>(
             state.book().is_legal();
             state.has_no_commit(at);
             let n = opening.node;
-            let key = Key::Ticket { lane: at.lane, t };
+            let key = HeldKey::Ticket { lane: at.lane, t };
             note_without(state, at, n, key, Event::Closed { n, t })
         }
     }

@@ -11,7 +11,7 @@ use Rattle.history_rules.specs.Legal.{KeepsRule, IsLegalPast}
 use Rattle.history_book.specs.Log.{printed}
 use Rattle.merge_tasks.specs.Merging.{Sheet}
 use Rattle.history_book.specs.Turns.{AreInTurn}
-use Rattle.cluster_nodes.specs.declared.nodes.Place.{Place}
+use Rattle.cluster_nodes.specs.declared.nodes.NodePlace.{NodePlace}
 use Rattle.cluster_state.specs.Run.{Rest, Run}
 use Rattle.cluster_state.specs.State.{Shows}
 use Rattle.cluster_state.proofs.Growing.{not_flying}
@@ -40,7 +40,7 @@ pub apart_of : (r : Run) (ended : Bool) (b : Sheet) (at : At) → {left : Rest} 
 apart_of r ended b at view legal turns line = not_flying r.nodes (printed r.log) at (subst (λ (x : Run). IsLegalPast x.nodes (printed x.log)) view legal) (past_has AreInTurn r ended b view turns) line
 
 -- the primary of the book is a node
-pub primary_is_node : {D : Type 0} (cells : D → Cells) (r : Run) (ended : Bool) (b : Sheet) (places : List (Option (Place D))) (o : Option NodeNo)
+pub primary_is_node : {D : Type 0} (cells : D → Cells) (r : Run) (ended : Bool) (b : Sheet) (places : List (Option (NodePlace D))) (o : Option NodeNo)
     → {left : Rest} → record { ended = ended; nodes = b.nodes; log = b.log; rest = left } ≡ r → r.ended ≡ false → (ended ≡ false → Shows cells b.log b.nodes places)
     → IsLegalPast b.nodes (printed b.log) → o ≡ primary_of (printed b.log) → IfSome o (λ p. IsNode r.nodes p.0)
 primary_is_node cells r ended b places None view running shows legal is = tt

@@ -25,7 +25,7 @@ use Rattle.history_book.specs.Turns.{StartsOnce, InTurn, AreInTurn}
 use Rattle.history_book.proofs.FoundLaws.{commit_found}
 use Rattle.cluster_nodes.specs.declared.nodes.Node.{Node}
 use Rattle.cluster_nodes.specs.declared.nodes.Node.TheVariants.{Primary, Replica, Down}
-use Rattle.cluster_nodes.specs.declared.nodes.Place.{Place}
+use Rattle.cluster_nodes.specs.declared.nodes.NodePlace.{NodePlace}
 use Rattle.cluster_nodes.specs.Places.{Disk, place_of, disk_of, disk_at}
 use Rattle.cluster_nodes.specs.KeptFiles.{KeepsNodeFiles}
 use Rattle.cluster_nodes.specs.JobPlaces.{MovesOne, MovesBoth}
@@ -176,7 +176,7 @@ module _ (source wider : Name → Content) (more : Extends source wider) (past n
 
 module _ {D : Type 0} where
   -- the node of one place moved, and its commits are as before
-  pub disk_moved : (n : ℕ) (x y : Place D) (old new : List (Option (Place D))) → MovesOne n x old new → place_of old n ≡ Some y → disk_of x.node ≡ disk_of y.node → (m : ℕ) → disk_at (place_of new m) ≡ disk_at (place_of old m)
+  pub disk_moved : (n : ℕ) (x y : NodePlace D) (old new : List (Option (NodePlace D))) → MovesOne n x old new → place_of old n ≡ Some y → disk_of x.node ≡ disk_of y.node → (m : ℕ) → disk_at (place_of new m) ≡ disk_at (place_of old m)
   disk_moved n x y old new moves there same m =
       by_test (n == m) (λ b. (n == m) ≡ b → disk_at (place_of new m) ≡ disk_at (place_of old m))
       (λ here q. ap disk_at (moves.there m ∙ ap (λ (b : Bool). if b then Some x else place_of old m) here)
@@ -185,7 +185,7 @@ module _ {D : Type 0} where
       refl
 
   -- or those of two
-  pub disks_moved : (p n : ℕ) (x y u w : Place D) (old new : List (Option (Place D))) → MovesBoth p n x y old new → place_of old p ≡ Some u → place_of old n ≡ Some w → disk_of x.node ≡ disk_of u.node → disk_of y.node ≡ disk_of w.node
+  pub disks_moved : (p n : ℕ) (x y u w : NodePlace D) (old new : List (Option (NodePlace D))) → MovesBoth p n x y old new → place_of old p ≡ Some u → place_of old n ≡ Some w → disk_of x.node ≡ disk_of u.node → disk_of y.node ≡ disk_of w.node
       → (m : ℕ) → disk_at (place_of new m) ≡ disk_at (place_of old m)
   disks_moved p n x y u w old new moves there_p there_n first second m = tests (n == m) (p == m) refl refl
     where
@@ -213,12 +213,12 @@ module _ {D : Type 0} where
     disk_kept (Down d) (Replica t) keeps = absurd keeps
 
     -- no node's commits moved
-    pub disks_kept : (source wider : Name → Content) (log now : Log) (size : ℕ) (old new : List (Option (Place D))) → Extends source wider → ((m : ℕ) → disk_at (place_of new m) ≡ disk_at (place_of old m))
+    pub disks_kept : (source wider : Name → Content) (log now : Log) (size : ℕ) (old new : List (Option (NodePlace D))) → Extends source wider → ((m : ℕ) → disk_at (place_of new m) ≡ disk_at (place_of old m))
         → ((m : ℕ) → CommitsStay (printed log) (printed now) m) → DisksShow source cells log size old → DisksShow wider cells now size new
     disks_kept source wider log now size old new more same stay was m node =
         subst (λ (o : Option (Disk D)). IsSomeAnd o (DiskShows wider cells (printed now) m)) (sym (same m))
         (some_then (disk_at (place_of old m)) (was m node) (λ disk shows. disk_stays source wider more (printed log) (printed now) m (stay m) cells disk shows))
 
     -- nor any place
-    pub disks_still : (source : Name → Content) (log now : Log) (size : ℕ) (places : List (Option (Place D))) → ((m : ℕ) → CommitsStay (printed log) (printed now) m) → DisksShow source cells log size places → DisksShow source cells now size places
+    pub disks_still : (source : Name → Content) (log now : Log) (size : ℕ) (places : List (Option (NodePlace D))) → ((m : ℕ) → CommitsStay (printed log) (printed now) m) → DisksShow source cells log size places → DisksShow source cells now size places
     disks_still source log now size places stay was = disks_kept source source log now size places places (λ q bytes is. is) (λ m. refl) stay was

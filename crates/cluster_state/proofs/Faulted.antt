@@ -12,7 +12,7 @@ use Rattle.history_rules.specs.Commits.{is_passed}
 use Rattle.history_rules.proofs.FaultLaws.{both}
 use Rattle.history_rules.proofs.PassedLaws.{stays_unpassed}
 use Rattle.history_book.specs.Log.{Log, printed, shown, mark_for}
-use Rattle.cluster_nodes.specs.declared.nodes.Place.{Place}
+use Rattle.cluster_nodes.specs.declared.nodes.NodePlace.{NodePlace}
 use Rattle.merge_tasks.specs.Board.{Board, TasksShow}
 use Rattle.merge_tasks.proofs.TaskFrames.{tasks_still, tasks_faulted}
 use Rattle.cluster_state.specs.State.{Shows}
@@ -112,7 +112,7 @@ fault_grows past at n kind = record {
   generation = omega arith;
 }
 
-module _ {D : Type 0} (cells : D → Cells) (size : ℕ) (places : List (Option (Place D))) where
+module _ {D : Type 0} (cells : D → Cells) (size : ℕ) (places : List (Option (NodePlace D))) where
   fault_shows : (task : Bool) (log : Log) (at : At) (n : ℕ) (kind : FaultKind) → Shows cells log size places → Shows cells (fault_by task at n kind ∷ log) size places
   fault_shows true log at n kind s =
       shows_still cells size log (fault_by true at n kind ∷ log) places (λ m. fault_same (printed log) at n kind m) (λ m. fewer (printed log) at (Fault (record { 0 = n }) kind) m refl)
@@ -151,7 +151,7 @@ met_has P task at step n (o ∷ olds) (w ∷ news) log was =
     one false kind log was = was
 
 -- all that is true of a cluster that runs, behind the faults that rose
-module _ {D : Type 0} (cells : D → Cells) (size : ℕ) (places : List (Option (Place D))) (cut : Bool) (board : Board) where
+module _ {D : Type 0} (cells : D → Cells) (size : ℕ) (places : List (Option (NodePlace D))) (cut : Bool) (board : Board) where
   pub faulted : (task : Bool) (at : At) (n : ℕ) (olds news : List (ℕ × ℕ)) (log : Log) → ClusterStands cells size places cut board log → ClusterStands cells size places cut board (with_met task at n olds news log)
   faulted task at n olds news log was =
       met_has (ClusterStands cells size places cut board) task at (λ m kind l s. (fault_shows cells size places task l at m kind s.0, fault_files cells size places task l at m kind s.0 s.1, fault_merges cells size places task cut board l at m kind s.2)) n olds news log was

@@ -10,14 +10,14 @@ use Rattle.nrt_base.specs.declared.numbers.Version.{Version}
 use Rattle.disk_model.specs.Disk.{Name, Content, Cells, reads_of}
 use Rattle.seg_reader.specs.Shown.{Shown}
 use Rattle.segment_infos.specs.declared.infos.Infos.{Infos}
-use Rattle.primary_state.specs.declared.parts.Parts.{Parts as PrimaryParts}
+use Rattle.primary_state.specs.declared.parts.PrimaryParts.{PrimaryParts}
 use Rattle.primary_state.specs.declared.states.Out.{Out}
 use Rattle.primary_state.specs.Primary.{IsPrimary, primary_names}
 use Rattle.file_names.specs.Names.{live_name_of}
 use Rattle.segment_steps.specs.Next.{live_base}
 use Rattle.replica_state.specs.Sources.{HeldReadAs}
 use Rattle.replica_state.specs.declared.job.PointJob.{PointJob}
-use Rattle.replica_state.specs.declared.parts.Parts.{Parts as ReplicaParts}
+use Rattle.replica_state.specs.declared.parts.ReplicaParts.{ReplicaParts}
 use Rattle.history_rules.specs.declared.entry.Event.{Event}
 use Rattle.history_rules.specs.declared.entry.Event.TheVariants.{Publishing, Published}
 use Rattle.history_rules.specs.Nodes.{Past, IsNode, is_at, primary_of, newest_version, generation_of}
@@ -32,10 +32,10 @@ use Rattle.history_book.specs.declared.inner.Inner.TheVariants.{FlushOut}
 use Rattle.history_book.specs.Jobs.{job_at}
 use Rattle.history_book.specs.Turns.{InTurn, AreInTurn}
 use Rattle.merge_tasks.specs.TaskLog.{carried_out}
-use Rattle.cluster_nodes.specs.declared.held.Held.{Held}
+use Rattle.cluster_nodes.specs.declared.held.HeldTicket.{HeldTicket}
 use Rattle.cluster_nodes.specs.declared.nodes.Node.{Node}
 use Rattle.cluster_nodes.specs.declared.nodes.Node.TheVariants.{Primary, Replica, Down}
-use Rattle.cluster_nodes.specs.declared.nodes.Place.{Place}
+use Rattle.cluster_nodes.specs.declared.nodes.NodePlace.{NodePlace}
 use Rattle.cluster_nodes.specs.Places.{place_of}
 use Rattle.cluster_state.specs.Run.{Rest, Run}
 use Rattle.cluster_state.specs.State.{PrimaryShows, NodeShows, PlaceShows, Shows}
@@ -67,42 +67,42 @@ some_both (Some x) h k step = step x h k
 
 module _ {D : Type 0} where
   -- the place that was moved, and the others
-  pub this_place : (n : ℕ) (x : Place D) (old new : List (Option (Place D))) → MovesOne n x old new → place_of new n ≡ Some x
+  pub this_place : (n : ℕ) (x : NodePlace D) (old new : List (Option (NodePlace D))) → MovesOne n x old new → place_of new n ≡ Some x
   this_place n x old new m = m.there n ∙ ap (λ (b : Bool). if b then Some x else place_of old n) (eq-eqb n n refl)
 
-  pub other_place : (n : ℕ) (x : Place D) (old new : List (Option (Place D))) (k : ℕ) → MovesOne n x old new → (n == k) ≡ false → place_of new k ≡ place_of old k
+  pub other_place : (n : ℕ) (x : NodePlace D) (old new : List (Option (NodePlace D))) (k : ℕ) → MovesOne n x old new → (n == k) ≡ false → place_of new k ≡ place_of old k
   other_place n x old new k m apart = m.there k ∙ ap (λ (b : Bool). if b then Some x else place_of old k) apart
 
-  pub one_each : {P Q : ℕ → Place D → Type 0} (size n : ℕ) (x : Place D) (old new : List (Option (Place D))) → MovesOne n x old new → ((m : ℕ) → IsNode size m → IsSomeAnd (place_of old m) (P m))
-      → ((m : ℕ) (z : Place D) → IsNode size m → (n == m) ≡ false → P m z → Q m z) → Q n x → (m : ℕ) → IsNode size m → IsSomeAnd (place_of new m) (Q m)
+  pub one_each : {P Q : ℕ → NodePlace D → Type 0} (size n : ℕ) (x : NodePlace D) (old new : List (Option (NodePlace D))) → MovesOne n x old new → ((m : ℕ) → IsNode size m → IsSomeAnd (place_of old m) (P m))
+      → ((m : ℕ) (z : NodePlace D) → IsNode size m → (n == m) ≡ false → P m z → Q m z) → Q n x → (m : ℕ) → IsNode size m → IsSomeAnd (place_of new m) (Q m)
   one_each {P = P} {Q = Q} size n x old new moves was others mine m node =
       by_test (n == m) (λ b. (n == m) ≡ b → IsSomeAnd (place_of new m) (Q m))
-      (λ here q. subst (λ (o : Option (Place D)). IsSomeAnd o (Q m)) (sym (moves.there m ∙ ap (λ (b : Bool). if b then Some x else place_of old m) here))
+      (λ here q. subst (λ (o : Option (NodePlace D)). IsSomeAnd o (Q m)) (sym (moves.there m ∙ ap (λ (b : Bool). if b then Some x else place_of old m) here))
       (subst (λ (k : ℕ). Q k x) (eqb-true n m here) mine))
-      (λ apart q. subst (λ (o : Option (Place D)). IsSomeAnd o (Q m)) (sym (moves.there m ∙ ap (λ (b : Bool). if b then Some x else place_of old m) apart))
+      (λ apart q. subst (λ (o : Option (NodePlace D)). IsSomeAnd o (Q m)) (sym (moves.there m ∙ ap (λ (b : Bool). if b then Some x else place_of old m) apart))
       (some_then (place_of old m) (was m node) (λ z has. others m z node apart has)))
       refl
 
-  pub both_each : {P Q : ℕ → Place D → Type 0} (size p n : ℕ) (x y : Place D) (old new : List (Option (Place D))) → MovesBoth p n x y old new → ((m : ℕ) → IsNode size m → IsSomeAnd (place_of old m) (P m))
-      → ((m : ℕ) (z : Place D) → IsNode size m → (p == m) ≡ false → (n == m) ≡ false → P m z → Q m z) → Q p x → Q n y → (m : ℕ) → IsNode size m → IsSomeAnd (place_of new m) (Q m)
+  pub both_each : {P Q : ℕ → NodePlace D → Type 0} (size p n : ℕ) (x y : NodePlace D) (old new : List (Option (NodePlace D))) → MovesBoth p n x y old new → ((m : ℕ) → IsNode size m → IsSomeAnd (place_of old m) (P m))
+      → ((m : ℕ) (z : NodePlace D) → IsNode size m → (p == m) ≡ false → (n == m) ≡ false → P m z → Q m z) → Q p x → Q n y → (m : ℕ) → IsNode size m → IsSomeAnd (place_of new m) (Q m)
   both_each {P = P} {Q = Q} size p n x y old new moves was others first second m node = tests (n == m) (p == m) refl refl
     where
       tests : (b c : Bool) → (n == m) ≡ b → (p == m) ≡ c → IsSomeAnd (place_of new m) (Q m)
-      tests true c here q = subst (λ (o : Option (Place D)). IsSomeAnd o (Q m)) (sym (moves.there m ∙ ap (λ (b : Bool). if b then Some y else if p == m then Some x else place_of old m) here))
+      tests true c here q = subst (λ (o : Option (NodePlace D)). IsSomeAnd o (Q m)) (sym (moves.there m ∙ ap (λ (b : Bool). if b then Some y else if p == m then Some x else place_of old m) here))
           (subst (λ (k : ℕ). Q k y) (eqb-true n m here) second)
-      tests false true apart here = subst (λ (o : Option (Place D)). IsSomeAnd o (Q m))
+      tests false true apart here = subst (λ (o : Option (NodePlace D)). IsSomeAnd o (Q m))
           (sym (moves.there m ∙ (ap (λ (b : Bool). if b then Some y else if p == m then Some x else place_of old m) apart ∙ ap (λ (b : Bool). if b then Some x else place_of old m) here)))
           (subst (λ (k : ℕ). Q k x) (eqb-true p m here) first)
-      tests false false apart away = subst (λ (o : Option (Place D)). IsSomeAnd o (Q m))
+      tests false false apart away = subst (λ (o : Option (NodePlace D)). IsSomeAnd o (Q m))
           (sym (moves.there m ∙ (ap (λ (b : Bool). if b then Some y else if p == m then Some x else place_of old m) apart ∙ ap (λ (b : Bool). if b then Some x else place_of old m) away)))
           (some_then (place_of old m) (was m node) (λ z has. others m z node away apart has))
 
   -- a place that was taken out and put back
-  pub put_one : (cells : D → Cells) (n : ℕ) (x : Place D) (old mid new : List (Option (Place D))) → PutsBack cells old mid new n x → MovesOne n x old new
+  pub put_one : (cells : D → Cells) (n : ℕ) (x : NodePlace D) (old mid new : List (Option (NodePlace D))) → PutsBack cells old mid new n x → MovesOne n x old new
   put_one cells n x old mid new put = moved_one old mid new n x put.count put.taken put.again put.there
 
   -- a node that keeps its job is counted as before
-  pub wants_same : (n : ℕ) (x y : Place D) (old new : List (Option (Place D))) → MovesOne n x old new → place_of old n ≡ Some y → want_at (Some x) ≡ want_at (Some y) → (m : ℕ) → want_at (place_of new m) ≡ want_at (place_of old m)
+  pub wants_same : (n : ℕ) (x y : NodePlace D) (old new : List (Option (NodePlace D))) → MovesOne n x old new → place_of old n ≡ Some y → want_at (Some x) ≡ want_at (Some y) → (m : ℕ) → want_at (place_of new m) ≡ want_at (place_of old m)
   wants_same n x y old new moves there same m =
       by_test (n == m) (λ b. (n == m) ≡ b → want_at (place_of new m) ≡ want_at (place_of old m))
       (λ here q.
@@ -112,7 +112,7 @@ module _ {D : Type 0} where
       refl
 
   -- the primary and a node were moved: the jobs of the others are as they were
-  pub wants_apart : (p n : ℕ) (x y u : Place D) (old new : List (Option (Place D))) → MovesBoth p n x y old new → place_of old p ≡ Some u → want_at (Some x) ≡ want_at (Some u) → (m : ℕ) → (n == m) ≡ false → want_at (place_of new m) ≡ want_at (place_of old m)
+  pub wants_apart : (p n : ℕ) (x y u : NodePlace D) (old new : List (Option (NodePlace D))) → MovesBoth p n x y old new → place_of old p ≡ Some u → want_at (Some x) ≡ want_at (Some u) → (m : ℕ) → (n == m) ≡ false → want_at (place_of new m) ≡ want_at (place_of old m)
   wants_apart p n x y u old new moves there same m apart = ap want_at (moves.there m ∙ ap (λ (b : Bool). if b then Some y else if p == m then Some x else place_of old m) apart) ∙ tests (p == m) refl
     where
       tests : (b : Bool) → (p == m) ≡ b → want_at (if p == m then Some x else place_of old m) ≡ want_at (place_of old m)
@@ -123,22 +123,22 @@ module _ {D : Type 0} where
 
 module _ {D : Type 0} (cells : D → Cells) where
   -- what is shown of the names at each node
-  abbrev pub AllNames : Past → ℕ → List (Option (Place D)) → Type 0
+  abbrev pub AllNames : Past → ℕ → List (Option (NodePlace D)) → Type 0
   AllNames past size places = (n : ℕ) → IsNode size n → IsSomeAnd (place_of places n) (λ place. NamesShow cells past place.node)
 
   -- no place moved
-  pub names_still : (size : ℕ) (past now : Past) (places : List (Option (Place D))) → Grows past now → AllNames past size places → AllNames now size places
+  pub names_still : (size : ℕ) (past now : Past) (places : List (Option (NodePlace D))) → Grows past now → AllNames past size places → AllNames now size places
   names_still size past now places g was n node = some_then (place_of places n) (was n node) (λ z shown. node_grows cells past now z.node g shown)
 
   -- one place moved
-  pub names_one : (size : ℕ) (past now : Past) (old new : List (Option (Place D))) (n : ℕ) (x y : Place D) → Grows past now → MovesOne n x old new → IsNode size n → place_of old n ≡ Some y → NodeSteps cells now y.node x.node
+  pub names_one : (size : ℕ) (past now : Past) (old new : List (Option (NodePlace D))) (n : ℕ) (x y : NodePlace D) → Grows past now → MovesOne n x old new → IsNode size n → place_of old n ≡ Some y → NodeSteps cells now y.node x.node
       → AllNames past size old → AllNames now size new
   names_one size past now old new n x y g moves node there steps was =
       one_each {P = λ m z. NamesShow cells past z.node} {Q = λ m z. NamesShow cells now z.node} size n x old new moves was (λ m z node apart shown. node_grows cells past now z.node g shown)
       (node_steps cells past now y.node x.node g steps (some_at (λ z. NamesShow cells past z.node) (place_of old n) y there (was n node)))
 
   -- two places moved
-  pub names_both : (size : ℕ) (past now : Past) (old new : List (Option (Place D))) (p n : ℕ) (x y u v : Place D) → Grows past now → MovesBoth p n x y old new → IsNode size p → IsNode size n → place_of old p ≡ Some u → place_of old n ≡ Some v
+  pub names_both : (size : ℕ) (past now : Past) (old new : List (Option (NodePlace D))) (p n : ℕ) (x y u v : NodePlace D) → Grows past now → MovesBoth p n x y old new → IsNode size p → IsNode size n → place_of old p ≡ Some u → place_of old n ≡ Some v
       → NodeSteps cells now u.node x.node → NodeSteps cells now v.node y.node → AllNames past size old → AllNames now size new
   names_both size past now old new p n x y u v g moves node_p node_n there_p there_n first second was =
       both_each {P = λ m z. NamesShow cells past z.node} {Q = λ m z. NamesShow cells now z.node} size p n x y old new moves was (λ m z node away apart shown. node_grows cells past now z.node g shown)
@@ -210,7 +210,7 @@ module _ {D : Type 0} (cells : D → Cells) where
   node_kept source log now jobs count n (Down d) (Primary q) keeps points same fewer was = absurd keeps
   node_kept source log now jobs count n (Down d) (Replica t) keeps points same fewer was = absurd keeps
 
-  want_kept : (x y : Place D) → KeepsNodeFiles cells x.node y.node → want_at (Some y) ≡ want_at (Some x)
+  want_kept : (x y : NodePlace D) → KeepsNodeFiles cells x.node y.node → want_at (Some y) ≡ want_at (Some x)
   want_kept x y keeps = wants x.node y.node keeps
     where
       want : Node D → Option Out
@@ -234,15 +234,15 @@ module _ {D : Type 0} (cells : D → Cells) where
   -- ---- all nodes
 
   -- what a node is and what its files are
-  abbrev pub Both : (Name → Content) → Log → (Out → ℕ) → ℕ → Place D → Type 0
+  abbrev pub Both : (Name → Content) → Log → (Out → ℕ) → ℕ → NodePlace D → Type 0
   Both source log jobs m z = PlaceShows cells log m z × NodeFiles source cells log jobs m z.node
 
-  pub both_of : (log : Log) (size : ℕ) (places : List (Option (Place D))) (shows : Shows cells log size places) (files : FilesShow cells log size places) (m : ℕ) → IsNode size m
+  pub both_of : (log : Log) (size : ℕ) (places : List (Option (NodePlace D))) (shows : Shows cells log size places) (files : FilesShow cells log size places) (m : ℕ) → IsNode size m
       → IsSomeAnd (place_of places m) (Both files.source log (λ s. jobs_like places s size) m)
   both_of log size places shows files m node = some_both (place_of places m) (shows.each m node) (files.each m node) (λ z a b. (a, b))
 
   -- no place moved, and what was handed out of merged files is what their names mean
-  pub files_carried : (size : ℕ) (log now : Log) (places : List (Option (Place D))) → Grows (printed log) (printed now) → ((m : ℕ) → is_at (primary_of (printed log)) m ≡ false → SameJob log now m)
+  pub files_carried : (size : ℕ) (log now : Log) (places : List (Option (NodePlace D))) → Grows (printed log) (printed now) → ((m : ℕ) → is_at (primary_of (printed log)) m ≡ false → SameJob log now m)
       → ((m : ℕ) → CommitsStay (printed log) (printed now) m) → Shows cells log size places → (files : FilesShow cells log size places)
       → ((q : Name) (bytes : List ℕ) → carried_out q now ≡ Some bytes → files.source q ≡ Some bytes) → FilesShow cells now size places
   files_carried size log now places grows same stay shows files carried = record {
@@ -256,14 +256,14 @@ module _ {D : Type 0} (cells : D → Cells) where
   }
 
   -- no place moved, and no more was handed out of merged files
-  pub files_still : (size : ℕ) (log now : Log) (places : List (Option (Place D))) → Grows (printed log) (printed now) → CarriesNoMore log now
+  pub files_still : (size : ℕ) (log now : Log) (places : List (Option (NodePlace D))) → Grows (printed log) (printed now) → CarriesNoMore log now
       → ((m : ℕ) → is_at (primary_of (printed log)) m ≡ false → SameJob log now m)
       → ((m : ℕ) → CommitsStay (printed log) (printed now) m) → Shows cells log size places → FilesShow cells log size places → FilesShow cells now size places
   files_still size log now places grows no_more same stay shows files =
       files_carried size log now places grows same stay shows files (λ q bytes out. files.carried q bytes (no_more q bytes out))
 
   -- one place moved, of which a call left the files and the job
-  pub files_one : (size : ℕ) (log now : Log) (old new : List (Option (Place D))) (n : ℕ) (x y : Place D) → Grows (printed log) (printed now) → CarriesNoMore log now → HoldsFrom cells (printed now) y.node x.node
+  pub files_one : (size : ℕ) (log now : Log) (old new : List (Option (NodePlace D))) (n : ℕ) (x y : NodePlace D) → Grows (printed log) (printed now) → CarriesNoMore log now → HoldsFrom cells (printed now) y.node x.node
       → ((m : ℕ) → is_at (primary_of (printed log)) m ≡ false → SameJob log now m) → ((m : ℕ) → CommitsStay (printed log) (printed now) m) → MovesOne n x old new → IsNode size n → place_of old n ≡ Some y → KeepsNodeFiles cells y.node x.node
       → Shows cells log size old → FilesShow cells log size old → FilesShow cells now size new
   files_one size log now old new n x y grows no_more holds same stay moves node there keeps shows files =
@@ -304,14 +304,14 @@ module _ {D : Type 0} (cells : D → Cells) where
       (live_low q.infos whole.numbered.generation whole.numbered.counter r live_gen small fits name refl (reads_of (cells q.dir)) q.infos.segs q.segs whole.numbered.segs whole.writer.stands.each (fills.named name uncounted some))
 
   -- the primary filled files which were not written yet
-  pub files_filled : (size : ℕ) (log now : Log) (old new : List (Option (Place D))) (n : ℕ) (p q : PrimaryParts D) (held : Vec Held Global) → FilesLast → Grows (printed log) (printed now) → CarriesNoMore log now
+  pub files_filled : (size : ℕ) (log now : Log) (old new : List (Option (NodePlace D))) (n : ℕ) (p q : PrimaryParts D) (held : Vec HeldTicket Global) → FilesLast → Grows (printed log) (printed now) → CarriesNoMore log now
       → HoldsFrom cells (printed now) (Primary p) (Primary q) → ((m : ℕ) → is_at (primary_of (printed log)) m ≡ false → SameJob log now m)
       → ((m : ℕ) → CommitsStay (printed log) (printed now) m) → ((m : ℕ) → (n == m) ≡ false → is_at (primary_of (printed log)) m ≡ false)
       → MovesOne n (record { node = Primary q; held = held }) old new → IsNode size n → place_of old n ≡ Some (record { node = Primary p; held = held }) → FillsPrimaryFiles cells p q → PrimaryShows cells now n q
       → Shows cells log size old → FilesShow cells log size old → FilesShow cells now size new
   files_filled size log now old new n p q held lasting grows no_more holds same stay others moves node there fills next shows files =
-      let x : Place D = record { node = Primary q; held = held } in
-      let y : Place D = record { node = Primary p; held = held } in
+      let x : NodePlace D = record { node = Primary q; held = held } in
+      let y : NodePlace D = record { node = Primary p; held = held } in
       let jobs : (s : Out) → jobs_like new s size ≡ jobs_like old s size = λ s. jobs_same old new s size (λ m low. wants_same n x y old new moves there refl m) in
       let mine = some_at (Both files.source log (λ s. jobs_like old s size) n) (place_of old n) y there (both_of log size old shows files n node) in
       let wider = widened files.source (cells q.dir) q.files in
@@ -338,11 +338,11 @@ module _ {D : Type 0} (cells : D → Cells) where
 
   -- ---- in the terms of a call
 
-  pub files_was : (r : Run) (ended : Bool) (size : ℕ) (log : Log) (places : List (Option (Place D)))
+  pub files_was : (r : Run) (ended : Bool) (size : ℕ) (log : Log) (places : List (Option (NodePlace D)))
       → {left : Rest} → record { ended = ended; nodes = size; log = log; rest = left } ≡ r → r.ended ≡ false → (ended ≡ false → FilesShow cells log size places) → FilesShow cells r.log r.nodes places
   files_was r ended size log places e f g = subst (λ (x : Run). x.ended ≡ false → FilesShow cells x.log x.nodes places) e g f
 
-  pub files_is : (log now : Log) (size size' : ℕ) (places : List (Option (Place D))) → now ≡ log → size' ≡ size → FilesShow cells log size places → FilesShow cells now size' places
+  pub files_is : (log now : Log) (size size' : ℕ) (places : List (Option (NodePlace D))) → now ≡ log → size' ≡ size → FilesShow cells log size places → FilesShow cells now size' places
   files_is log now size size' places e f s = subst (λ (x : Log × ℕ). FilesShow cells x.0 x.1 places) (λ i. (sym e i, sym f i)) s
 
   -- what a call knows of the past
@@ -369,7 +369,7 @@ module _ {D : Type 0} (cells : D → Cells) where
   flights_of r ended b0 b1 at view e1 n1 legal turns none = let b = before r ended b0 b1 view e1 n1 legal turns in fresh_flights r.nodes (printed r.log) at b.legal b.turns none
 
   -- the entry that a call appended moved no place
-  pub files_noted : (r : Run) (ended : Bool) (b0 b1 b2 : Sheet) (places : List (Option (Place D))) (at : At) (e : Event)
+  pub files_noted : (r : Run) (ended : Bool) (b0 b1 b2 : Sheet) (places : List (Option (NodePlace D))) (at : At) (e : Event)
       → {left : Rest} → record { ended = ended; nodes = b0.nodes; log = b0.log; rest = left } ≡ r → r.ended ≡ false → (ended ≡ false → Shows cells b0.log b0.nodes places) → (ended ≡ false → FilesShow cells b0.log b0.nodes places)
       → b1.log ≡ b0.log → b1.nodes ≡ b0.nodes → b2.log ≡ shown at e ∷ b1.log → b2.nodes ≡ b1.nodes → IsLegalPast b1.nodes (printed b1.log) → AreInTurn (printed b1.log)
       → KeepsRule r.nodes (printed r.log) at e → InTurn (printed r.log) at e → ((m : ℕ) → keeps_jobs e m ≡ true)
@@ -382,7 +382,7 @@ module _ {D : Type 0} (cells : D → Cells) where
       (was cells r ended b0.nodes b0.log places view running shows) (files_was r ended b0.nodes b0.log places view running files))
 
   -- it moved one, of which the node's call left the files and the job
-  pub files_moved : (r : Run) (ended : Bool) (b0 b1 b2 : Sheet) (old mid new : List (Option (Place D))) (at : At) (e : Event) (n : ℕ) (x y : Place D)
+  pub files_moved : (r : Run) (ended : Bool) (b0 b1 b2 : Sheet) (old mid new : List (Option (NodePlace D))) (at : At) (e : Event) (n : ℕ) (x y : NodePlace D)
       → {left : Rest} → record { ended = ended; nodes = b0.nodes; log = b0.log; rest = left } ≡ r → r.ended ≡ false → (ended ≡ false → Shows cells b0.log b0.nodes old) → (ended ≡ false → FilesShow cells b0.log b0.nodes old)
       → b1.log ≡ b0.log → b1.nodes ≡ b0.nodes → b2.log ≡ shown at e ∷ b1.log → b2.nodes ≡ b1.nodes → IsLegalPast b1.nodes (printed b1.log) → AreInTurn (printed b1.log)
       → KeepsRule r.nodes (printed r.log) at e → InTurn (printed r.log) at e → ((m : ℕ) → keeps_jobs e m ≡ true)
@@ -395,7 +395,7 @@ module _ {D : Type 0} (cells : D → Cells) where
       (was cells r ended b0.nodes b0.log old view running shows) (files_was r ended b0.nodes b0.log old view running files))
 
   -- the start of a publish, which is handed out
-  pub files_started : (r : Run) (ended : Bool) (b0 b1 b2 b3 : Sheet) (old mid new : List (Option (Place D))) (at : At) (seg : Option SegNo) (segs : List Shown) (n : ℕ) (x y : Place D)
+  pub files_started : (r : Run) (ended : Bool) (b0 b1 b2 b3 : Sheet) (old mid new : List (Option (NodePlace D))) (at : At) (seg : Option SegNo) (segs : List Shown) (n : ℕ) (x y : NodePlace D)
       → {left : Rest} → record { ended = ended; nodes = b0.nodes; log = b0.log; rest = left } ≡ r → r.ended ≡ false → (ended ≡ false → Shows cells b0.log b0.nodes old) → (ended ≡ false → FilesShow cells b0.log b0.nodes old)
       → b1.log ≡ b0.log → b1.nodes ≡ b0.nodes → b2.log ≡ shown at Publishing ∷ b1.log → b2.nodes ≡ b1.nodes → IsLegalPast b1.nodes (printed b1.log) → AreInTurn (printed b1.log)
       → b3.log ≡ kept (FlushOut at seg segs) ∷ b2.log → b3.nodes ≡ b2.nodes
@@ -413,7 +413,7 @@ module _ {D : Type 0} (cells : D → Cells) where
       (was cells r ended b0.nodes b0.log old view running shows) (files_was r ended b0.nodes b0.log old view running files))
 
   -- the end of a publish, which wrote files
-  pub files_published : (r : Run) (ended : Bool) (b0 b1 b2 : Sheet) (old mid new : List (Option (Place D))) (at : At) (g : Gen) (v : Version) (n : NodeNo) (p q : PrimaryParts D) (held : Vec Held Global)
+  pub files_published : (r : Run) (ended : Bool) (b0 b1 b2 : Sheet) (old mid new : List (Option (NodePlace D))) (at : At) (g : Gen) (v : Version) (n : NodeNo) (p q : PrimaryParts D) (held : Vec HeldTicket Global)
       → {left : Rest} → record { ended = ended; nodes = b0.nodes; log = b0.log; rest = left } ≡ r → r.ended ≡ false → (ended ≡ false → Shows cells b0.log b0.nodes old) → (ended ≡ false → FilesShow cells b0.log b0.nodes old)
       → b1.log ≡ b0.log → b1.nodes ≡ b0.nodes → b2.log ≡ shown at (Published g v) ∷ b1.log → b2.nodes ≡ b1.nodes → IsLegalPast b1.nodes (printed b1.log) → AreInTurn (printed b1.log)
       → KeepsRule r.nodes (printed r.log) at (Published g v) → InTurn (printed r.log) at (Published g v) → primary_of (printed r.log) ≡ Some n

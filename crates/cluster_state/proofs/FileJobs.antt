@@ -7,11 +7,11 @@ use Rattle.std.proofs.lemmas.Bool.{eq-eqb}
 use Rattle.std.proofs.lemmas.Bool.Decides.{nat_tests}
 use Rattle.nrt_base.specs.declared.numbers.At.{At}
 use Rattle.disk_model.specs.Disk.{Name, Content, Cells}
-use Rattle.primary_state.specs.declared.parts.Parts.{Parts as PrimaryParts}
+use Rattle.primary_state.specs.declared.parts.PrimaryParts.{PrimaryParts}
 use Rattle.primary_state.specs.declared.states.Out.{Out}
 use Rattle.primary_state.specs.States.{is_out, out_of}
 use Rattle.replica_state.specs.declared.job.PointJob.{PointJob}
-use Rattle.replica_state.specs.declared.parts.Parts.{Parts as ReplicaParts}
+use Rattle.replica_state.specs.declared.parts.ReplicaParts.{ReplicaParts}
 use Rattle.replica_state.specs.Replica.{IsJobAbove}
 use Rattle.replica_state.specs.Jobs.{job_seen, running_point, stopped_job}
 use Rattle.replica_state.specs.Given.{HasMeta}
@@ -26,10 +26,10 @@ use Rattle.history_book.specs.Log.{Log, printed}
 use Rattle.history_book.specs.Jobs.{job_at, IsOlder, LaneJobShows}
 use Rattle.history_book.proofs.JobLaws.{going_at}
 use Rattle.history_book.proofs.ReignLaws.{node_alive, source_alive}
-use Rattle.cluster_nodes.specs.declared.held.Held.{Held}
+use Rattle.cluster_nodes.specs.declared.held.HeldTicket.{HeldTicket}
 use Rattle.cluster_nodes.specs.declared.nodes.Node.{Node}
 use Rattle.cluster_nodes.specs.declared.nodes.Node.TheVariants.{Primary, Replica, Down}
-use Rattle.cluster_nodes.specs.declared.nodes.Place.{Place}
+use Rattle.cluster_nodes.specs.declared.nodes.NodePlace.{NodePlace}
 use Rattle.cluster_nodes.specs.Places.{place_of}
 use Rattle.cluster_state.specs.State.{PlaceShows, Shows}
 use Rattle.cluster_nodes.specs.Outs.{want_of, want_at, jobs_like}
@@ -124,44 +124,44 @@ seen_want p seen generation = by (nat_lt seen generation) p
 
 module _ {D : Type 0} (cells : D → Cells) where
   -- what stands in a place with what its files are
-  pub record IsFileNode (source : Name → Content) (log : Log) (jobs : Out → ℕ) (n : ℕ) (places : List (Option (Place D))) : Type 0 where
-    pub place : Place D
+  pub record IsFileNode (source : Name → Content) (log : Log) (jobs : Out → ℕ) (n : ℕ) (places : List (Option (NodePlace D))) : Type 0 where
+    pub place : NodePlace D
     pub there : place_of places n ≡ Some place
     pub both : Both cells source log jobs n place
 
-  pub file_node : (log : Log) (size n : ℕ) (places : List (Option (Place D))) (shows : Shows cells log size places) (files : FilesShow cells log size places) → IsNode size n
+  pub file_node : (log : Log) (size n : ℕ) (places : List (Option (NodePlace D))) (shows : Shows cells log size places) (files : FilesShow cells log size places) → IsNode size n
       → IsFileNode files.source log (λ s. jobs_like places s size) n places
   file_node log size n places shows files node = found (place_of places n) refl (both_of cells log size places shows files n node)
     where
-      found : (o : Option (Place D)) → place_of places n ≡ o → IsSomeAnd o (Both cells files.source log (λ s. jobs_like places s size) n) → IsFileNode files.source log (λ s. jobs_like places s size) n places
+      found : (o : Option (NodePlace D)) → place_of places n ≡ o → IsSomeAnd o (Both cells files.source log (λ s. jobs_like places s size) n) → IsFileNode files.source log (λ s. jobs_like places s size) n places
       found None is none = absurd none
       found (Some place) is both = record { place = place; there = is; both = both }
 
   -- the primary in its place
-  pub record PrimaryHere (source : Name → Content) (log : Log) (jobs : Out → ℕ) (p : ℕ) (places : List (Option (Place D))) : Type 0 where
+  pub record PrimaryHere (source : Name → Content) (log : Log) (jobs : Out → ℕ) (p : ℕ) (places : List (Option (NodePlace D))) : Type 0 where
     pub at : IsPrimaryAt places p
     pub shows : PlaceShows cells log p (record { node = Primary at.parts; held = at.held })
     pub files : PrimaryFiles source cells (printed log) jobs at.parts
 
   -- a replica in its place
-  pub record ReplicaHere (source : Name → Content) (log : Log) (n : ℕ) (places : List (Option (Place D))) : Type 0 where
+  pub record ReplicaHere (source : Name → Content) (log : Log) (n : ℕ) (places : List (Option (NodePlace D))) : Type 0 where
     pub at : IsReplicaAt places n
     pub shows : PlaceShows cells log n (record { node = Replica at.parts; held = at.held })
     pub files : ReplicaFiles source cells log n at.parts
 
-  pub primary_here : (log : Log) (size p : ℕ) (places : List (Option (Place D))) (shows : Shows cells log size places) (files : FilesShow cells log size places) → IsNode size p → is_at (primary_of (printed log)) p ≡ true
+  pub primary_here : (log : Log) (size p : ℕ) (places : List (Option (NodePlace D))) (shows : Shows cells log size places) (files : FilesShow cells log size places) → IsNode size p → is_at (primary_of (printed log)) p ≡ true
       → PrimaryHere files.source log (λ s. jobs_like places s size) p places
   primary_here log size p places shows files node primary = let f = file_node log size p places shows files node in found f.place.node f.place.held f.there f.both
     where
-      found : (x : Node D) (held : Vec Held Global) → place_of places p ≡ Some (record { node = x; held = held }) → Both cells files.source log (λ s. jobs_like places s size) p (record { node = x; held = held }) → PrimaryHere files.source log (λ s. jobs_like places s size) p places
+      found : (x : Node D) (held : Vec HeldTicket Global) → place_of places p ≡ Some (record { node = x; held = held }) → Both cells files.source log (λ s. jobs_like places s size) p (record { node = x; held = held }) → PrimaryHere files.source log (λ s. jobs_like places s size) p places
       found (Primary q) held there both = record { at = record { slot = slot_of cells log size p places node shows; parts = q; held = held; there = there }; shows = both.0; files = both.1 }
       found (Replica r) held there both = absurd (true≢false (sym primary ∙ both.0.node_shows.other))
       found (Down d) held there both = absurd (true≢false (sym primary ∙ both.0.node_shows.other))
 
-  pub replica_here : (log : Log) (size n : ℕ) (places : List (Option (Place D))) (shows : Shows cells log size places) (files : FilesShow cells log size places) → IsNode size n → IsReplica (printed log) n → ReplicaHere files.source log n places
+  pub replica_here : (log : Log) (size n : ℕ) (places : List (Option (NodePlace D))) (shows : Shows cells log size places) (files : FilesShow cells log size places) → IsNode size n → IsReplica (printed log) n → ReplicaHere files.source log n places
   replica_here log size n places shows files node replica = let f = file_node log size n places shows files node in found f.place.node f.place.held f.there f.both
     where
-      found : (x : Node D) (held : Vec Held Global) → place_of places n ≡ Some (record { node = x; held = held }) → Both cells files.source log (λ s. jobs_like places s size) n (record { node = x; held = held }) → ReplicaHere files.source log n places
+      found : (x : Node D) (held : Vec HeldTicket Global) → place_of places n ≡ Some (record { node = x; held = held }) → Both cells files.source log (λ s. jobs_like places s size) n (record { node = x; held = held }) → ReplicaHere files.source log n places
       found (Primary q) held there both = absurd (true≢false (sym both.0.node_shows.primary ∙ replica.other))
       found (Replica r) held there both = record { at = record { slot = slot_of cells log size n places node shows; parts = r; held = held; there = there }; shows = both.0; files = both.1 }
       found (Down d) held there both = absurd (true≢false (sym replica.running ∙ both.0.node_shows.down))
@@ -188,7 +188,7 @@ module _ {D : Type 0} (cells : D → Cells) where
       }
 
   -- its copy state is out
-  pub job_out : (log : Log) (size n : ℕ) (places : List (Option (Place D))) (p : PrimaryParts D) (r : ReplicaParts D) (held : Vec Held Global) (source : Name → Content) → IsNode size n → place_of places n ≡ Some (record { node = Replica r; held = held })
+  pub job_out : (log : Log) (size n : ℕ) (places : List (Option (NodePlace D))) (p : PrimaryParts D) (r : ReplicaParts D) (held : Vec HeldTicket Global) (source : Name → Content) → IsNode size n → place_of places n ≡ Some (record { node = Replica r; held = held })
       → PrimaryFiles source cells (printed log) (λ s. jobs_like places s size) p → IfSome (want_of r.job) (λ s. is_out s p.states ≡ true)
   job_out log size n places p r held source node there files = found r.job refl
     where
@@ -219,7 +219,7 @@ module _ {D : Type 0} (cells : D → Cells) where
       found (Some a) is = absurd (clash (job_at n log) a older (files.flight a is))
 
   -- nor where the replica searches the newest version
-  pub reached_older : (log : Log) (n : ℕ) (r : ReplicaParts D) (held : Vec Held Global) (source : Name → Content) → PlaceShows cells log n (record { node = Replica r; held = held }) → version_of n (printed log) ≡ newest_version (printed log)
+  pub reached_older : (log : Log) (n : ℕ) (r : ReplicaParts D) (held : Vec HeldTicket Global) (source : Name → Content) → PlaceShows cells log n (record { node = Replica r; held = held }) → version_of n (printed log) ≡ newest_version (printed log)
       → ReplicaFiles source cells log n r → IsOlder (newest_version (printed log)) (job_at n log)
   reached_older log n r held source shows reached files = found (job_at n log) r.job refl files.job shows.node_shows.whole.newer
     where

@@ -10,7 +10,7 @@ use Rattle.seg_reader.specs.Shown.{Shown}
 use Rattle.seg_reader.specs.Stands.{AreSegmentsOf}
 use Rattle.segment_infos.specs.declared.infos.Infos.{Infos}
 use Rattle.searcher_switch.specs.declared.open.Open.{Open}
-use Rattle.searcher_switch.specs.declared.open.Point.{Point}
+use Rattle.searcher_switch.specs.declared.open.SearchPoint.{SearchPoint}
 use Rattle.searcher_switch.specs.Tickets.{ticket_at}
 use Rattle.history_rules.specs.declared.entry.Entry.{Entry}
 use Rattle.history_rules.specs.declared.entry.Event.{Event}
@@ -26,13 +26,13 @@ use Rattle.history_book.specs.declared.inner.Inner.TheVariants.{FlushOut}
 use Rattle.nrt_base.specs.declared.numbers.SegNo.{SegNo}
 use Rattle.history_book.specs.Told.{IsSo}
 use Rattle.history_book.specs.Turns.{AreInTurn}
-use Rattle.primary_state.specs.declared.parts.Parts.{Parts as PrimaryParts}
+use Rattle.primary_state.specs.declared.parts.PrimaryParts.{PrimaryParts}
 use Rattle.primary_state.specs.declared.parts.Publish.{Publish}
-use Rattle.replica_state.specs.declared.parts.Parts.{Parts as ReplicaParts}
-use Rattle.cluster_nodes.specs.declared.held.Held.{Held}
+use Rattle.replica_state.specs.declared.parts.ReplicaParts.{ReplicaParts}
+use Rattle.cluster_nodes.specs.declared.held.HeldTicket.{HeldTicket}
 use Rattle.cluster_nodes.specs.declared.nodes.Node.{Node}
 use Rattle.cluster_nodes.specs.declared.nodes.Node.TheVariants.{Primary, Replica, Down}
-use Rattle.cluster_nodes.specs.declared.nodes.Place.{Place}
+use Rattle.cluster_nodes.specs.declared.nodes.NodePlace.{NodePlace}
 use Rattle.cluster_state.specs.Lookups.{Handed, handed_by, or_older, flush_out}
 use Rattle.cluster_nodes.specs.Places.{place_of, IsSlot, tickets_of}
 use Rattle.cluster_state.specs.Run.{Rest, Run}
@@ -59,10 +59,10 @@ start_back at e past none = go (is_start e.event && same_at e.at at) none
 
 -- ---- tickets
 
-point_more : (past now : Past) (v w : ℕ) (p : Point Shown) → Lasts past now → w ≡ v → IsPointAt past v p → IsPointAt now w p
+point_more : (past now : Past) (v w : ℕ) (p : SearchPoint Shown) → Lasts past now → w ≡ v → IsPointAt past v p → IsPointAt now w p
 point_more past now v w p g same was = record { version = was.version ∙ sym same; stands = subst (λ (k : ℕ). StandForVersion now k p.readers) (sym same) (g.stands v p.readers was.stands) }
 
-pub holds_same : (past now : Past) (n : ℕ) (tickets : List (Open Shown)) (held : List Held) → Lasts past now → Fewer past now n → HoldsTickets past n tickets held → HoldsTickets now n tickets held
+pub holds_same : (past now : Past) (n : ℕ) (tickets : List (Open Shown)) (held : List HeldTicket) → Lasts past now → Fewer past now n → HoldsTickets past n tickets held → HoldsTickets now n tickets held
 holds_same past now n tickets held g f was = record {
   each = λ key number is. some_then (ticket_at number tickets) (was.each key number is) (λ o stands. g.stands o.point.version.0 o.point.readers stands);
   apart = was.apart;
@@ -155,7 +155,7 @@ module _ {D : Type 0} (cells : D → Cells) where
   node_same log now n (Down d) s out was = record { down = s.running ∙ was.down; other = s.primary ∙ was.other }
 
   -- a node that the entry does not move stays as it was
-  pub place_same : (log now : Log) (n : ℕ) (x : Place D) → Same (printed log) (printed now) n → Fewer (printed log) (printed now) n → KeepsHanded log now → PlaceShows cells log n x → PlaceShows cells now n x
+  pub place_same : (log now : Log) (n : ℕ) (x : NodePlace D) → Same (printed log) (printed now) n → Fewer (printed log) (printed now) n → KeepsHanded log now → PlaceShows cells log n x → PlaceShows cells now n x
   place_same log now n x s f out was = record {
     node_shows = node_same log now n x.node s out was.node_shows;
     tickets = holds_same (printed log) (printed now) n (tickets_of x.node) x.held.items s.lasts f was.tickets;
@@ -164,26 +164,26 @@ module _ {D : Type 0} (cells : D → Cells) where
   -- ---- all of them
 
   -- one place was taken out of its number, and another was put there
-  pub record PutsBack (old mid new : List (Option (Place D))) (n : ℕ) (x : Place D) : Type 0 where
+  pub record PutsBack (old mid new : List (Option (NodePlace D))) (n : ℕ) (x : NodePlace D) : Type 0 where
     pub count : length mid ≡ length old
     pub taken : (m : ℕ) → place_of mid m ≡ (if n == m then None else place_of old m)
     pub again : length new ≡ length mid
     pub there : (m : ℕ) → place_of new m ≡ (if n == m then Some x else place_of mid m)
 
   -- the other places show what they showed
-  each_moved : (size : ℕ) (log now : Log) (old mid new : List (Option (Place D))) (n : ℕ) (x : Place D)
+  each_moved : (size : ℕ) (log now : Log) (old mid new : List (Option (NodePlace D))) (n : ℕ) (x : NodePlace D)
       → ((m : ℕ) → (n == m) ≡ false → Same (printed log) (printed now) m) → ((m : ℕ) → (n == m) ≡ false → Fewer (printed log) (printed now) m) → KeepsHanded log now → PutsBack old mid new n x → PlaceShows cells now n x
       → ((m : ℕ) → IsNode size m → IsSomeAnd (place_of old m) (PlaceShows cells log m)) → (m : ℕ) → IsNode size m → IsSomeAnd (place_of new m) (PlaceShows cells now m)
   each_moved size log now old mid new n x others fewers out put mine was m node =
       by_test (n == m) (λ b. (n == m) ≡ b → IsSomeAnd (place_of new m) (PlaceShows cells now m))
-      (λ here q. subst (λ (o : Option (Place D)). IsSomeAnd o (PlaceShows cells now m)) (sym (put.there m ∙ ap (λ (b : Bool). if b then Some x else place_of mid m) here))
+      (λ here q. subst (λ (o : Option (NodePlace D)). IsSomeAnd o (PlaceShows cells now m)) (sym (put.there m ∙ ap (λ (b : Bool). if b then Some x else place_of mid m) here))
       (subst (λ (k : ℕ). PlaceShows cells now k x) (eqb-true n m here) mine))
-      (λ apart q. subst (λ (o : Option (Place D)). IsSomeAnd o (PlaceShows cells now m))
+      (λ apart q. subst (λ (o : Option (NodePlace D)). IsSomeAnd o (PlaceShows cells now m))
       (sym ((put.there m ∙ ap (λ (b : Bool). if b then Some x else place_of mid m) apart) ∙ (put.taken m ∙ ap (λ (b : Bool). if b then None else place_of old m) apart)))
       (some_then (place_of old m) (was m node) (λ y shows. place_same log now m y (others m apart) (fewers m apart) out shows)))
       refl
 
-  pub shows_moved : (size : ℕ) (log now : Log) (old mid new : List (Option (Place D))) (n : ℕ) (x : Place D)
+  pub shows_moved : (size : ℕ) (log now : Log) (old mid new : List (Option (NodePlace D))) (n : ℕ) (x : NodePlace D)
       → ((m : ℕ) → (n == m) ≡ false → Same (printed log) (printed now) m) → ((m : ℕ) → (n == m) ≡ false → Fewer (printed log) (printed now) m) → KeepsHanded log now → ((at : At) → start_entry at (printed now) ≡ None → flush_out at now ≡ None)
       → PutsBack old mid new n x → PlaceShows cells now n x → Shows cells log size old → Shows cells now size new
   shows_moved size log now old mid new n x others fewers out handed put mine was = record {
@@ -194,7 +194,7 @@ module _ {D : Type 0} (cells : D → Cells) where
   }
 
   -- the entry moved no place
-  pub shows_still : (size : ℕ) (log now : Log) (places : List (Option (Place D)))
+  pub shows_still : (size : ℕ) (log now : Log) (places : List (Option (NodePlace D)))
       → ((m : ℕ) → Same (printed log) (printed now) m) → ((m : ℕ) → Fewer (printed log) (printed now) m) → KeepsHanded log now → ((at : At) → start_entry at (printed now) ≡ None → flush_out at now ≡ None)
       → Shows cells log size places → Shows cells now size places
   shows_still size log now places others fewers out handed was = record {
@@ -207,15 +207,15 @@ module _ {D : Type 0} (cells : D → Cells) where
   -- ---- in the terms of a call
 
   -- what a cluster that runs shows, in the words of its callers
-  pub was : (r : Run) (ended : Bool) (size : ℕ) (log : Log) (places : List (Option (Place D)))
+  pub was : (r : Run) (ended : Bool) (size : ℕ) (log : Log) (places : List (Option (NodePlace D)))
       → {left : Rest} → record { ended = ended; nodes = size; log = log; rest = left } ≡ r → r.ended ≡ false → (ended ≡ false → Shows cells log size places) → Shows cells r.log r.nodes places
   was r ended size log places e f g = subst (λ (x : Run). x.ended ≡ false → Shows cells x.log x.nodes places) e g f
 
-  pub now_is : (log now : Log) (size size' : ℕ) (places : List (Option (Place D))) → now ≡ log → size' ≡ size → Shows cells log size places → Shows cells now size' places
+  pub now_is : (log now : Log) (size size' : ℕ) (places : List (Option (NodePlace D))) → now ≡ log → size' ≡ size → Shows cells log size places → Shows cells now size' places
   now_is log now size size' places e f s = subst (λ (x : Log × ℕ). Shows cells x.0 x.1 places) (λ i. (sym e i, sym f i)) s
 
   -- the entry that a call appended moved no place
-  pub noted : (r : Run) (ended : Bool) (b0 b1 b2 : Sheet) (places : List (Option (Place D))) (at : At) (e : Event)
+  pub noted : (r : Run) (ended : Bool) (b0 b1 b2 : Sheet) (places : List (Option (NodePlace D))) (at : At) (e : Event)
       → {left : Rest} → record { ended = ended; nodes = b0.nodes; log = b0.log; rest = left } ≡ r → r.ended ≡ false → (ended ≡ false → Shows cells b0.log b0.nodes places)
       → b1.log ≡ b0.log → b1.nodes ≡ b0.nodes → b2.log ≡ shown at e ∷ b1.log → b2.nodes ≡ b1.nodes → IsLegalPast b1.nodes (printed b1.log) → AreInTurn (printed b1.log)
       → KeepsRule r.nodes (printed r.log) at e → publish_in_flight (printed r.log) ≢ Some at → ((p : Option NodeNo) (m : ℕ) → moves e p m ≡ false) → ((m : ℕ) → moves_tickets e m ≡ false)
@@ -232,7 +232,7 @@ module _ {D : Type 0} (cells : D → Cells) where
       (λ a none. s.handed a (start_back a (record { at = at; event = e }) (printed r.log) none)) s)
 
   -- the entry that a call appended moved one place
-  pub moved_at : (r : Run) (ended : Bool) (b0 b1 b2 : Sheet) (old mid new : List (Option (Place D))) (at : At) (e : Event) (n : ℕ) (x y : Place D)
+  pub moved_at : (r : Run) (ended : Bool) (b0 b1 b2 : Sheet) (old mid new : List (Option (NodePlace D))) (at : At) (e : Event) (n : ℕ) (x y : NodePlace D)
       → {left : Rest} → record { ended = ended; nodes = b0.nodes; log = b0.log; rest = left } ≡ r → r.ended ≡ false → (ended ≡ false → Shows cells b0.log b0.nodes old)
       → b1.log ≡ b0.log → b1.nodes ≡ b0.nodes → b2.log ≡ shown at e ∷ b1.log → b2.nodes ≡ b1.nodes → IsLegalPast b1.nodes (printed b1.log) → AreInTurn (printed b1.log)
       → KeepsRule r.nodes (printed r.log) at e
@@ -266,7 +266,7 @@ module _ {D : Type 0} (cells : D → Cells) where
       go false got = ap (λ (o : Option Handed). or_older o None) (was a got)
 
   -- the entry that starts a publish moved the primary's place, and what is handed out stands behind it
-  pub moved_out : (r : Run) (ended : Bool) (b0 b1 b2 b3 : Sheet) (old mid new : List (Option (Place D))) (at : At) (seg : Option SegNo) (segs : List Shown) (n : ℕ) (x y : Place D)
+  pub moved_out : (r : Run) (ended : Bool) (b0 b1 b2 b3 : Sheet) (old mid new : List (Option (NodePlace D))) (at : At) (seg : Option SegNo) (segs : List Shown) (n : ℕ) (x y : NodePlace D)
       → {left : Rest} → record { ended = ended; nodes = b0.nodes; log = b0.log; rest = left } ≡ r → r.ended ≡ false → (ended ≡ false → Shows cells b0.log b0.nodes old)
       → b1.log ≡ b0.log → b1.nodes ≡ b0.nodes → b2.log ≡ shown at Publishing ∷ b1.log → b2.nodes ≡ b1.nodes → IsLegalPast b1.nodes (printed b1.log) → AreInTurn (printed b1.log)
       → b3.log ≡ kept (FlushOut at seg segs) ∷ b2.log → b3.nodes ≡ b2.nodes
@@ -291,29 +291,29 @@ module _ {D : Type 0} (cells : D → Cells) where
 
   -- ---- what is there
 
-  pub slot_of : (log : Log) (size n : ℕ) (places : List (Option (Place D))) → IsNode size n → Shows cells log size places → IsSlot places n
+  pub slot_of : (log : Log) (size n : ℕ) (places : List (Option (NodePlace D))) → IsNode size n → Shows cells log size places → IsSlot places n
   slot_of log size n places node s = (node.0, subst (λ (k : ℕ). n ≤ k) (sym s.count) node.1)
 
-  pub there_of : (log : Log) (size n : ℕ) (places : List (Option (Place D))) → IsNode size n → Shows cells log size places → place_of places n ≢ None
-  there_of log size n places node s none = subst (λ (o : Option (Place D)). IsSomeAnd o (PlaceShows cells log n)) none (s.each n node)
+  pub there_of : (log : Log) (size n : ℕ) (places : List (Option (NodePlace D))) → IsNode size n → Shows cells log size places → place_of places n ≢ None
+  there_of log size n places node s none = subst (λ (o : Option (NodePlace D)). IsSomeAnd o (PlaceShows cells log n)) none (s.each n node)
 
-  pub place_shows : (log : Log) (size n : ℕ) (places : List (Option (Place D))) (x : Place D) → IsNode size n → place_of places n ≡ Some x → Shows cells log size places → PlaceShows cells log n x
+  pub place_shows : (log : Log) (size n : ℕ) (places : List (Option (NodePlace D))) (x : NodePlace D) → IsNode size n → place_of places n ≡ Some x → Shows cells log size places → PlaceShows cells log n x
   place_shows log size n places x node there s = some_at (PlaceShows cells log n) (place_of places n) x there (s.each n node)
 
   -- ---- the same in the terms of a call
 
-  pub slot_at : (r : Run) (ended : Bool) (size n : ℕ) (log : Log) (places : List (Option (Place D))) → {left : Rest} → record { ended = ended; nodes = size; log = log; rest = left } ≡ r → r.ended ≡ false
+  pub slot_at : (r : Run) (ended : Bool) (size n : ℕ) (log : Log) (places : List (Option (NodePlace D))) → {left : Rest} → record { ended = ended; nodes = size; log = log; rest = left } ≡ r → r.ended ≡ false
       → (ended ≡ false → Shows cells log size places) → IsNode r.nodes n → IsSlot places n
   slot_at r ended size n log places view running shows node = slot_of r.log r.nodes n places node (was r ended size log places view running shows)
 
   -- a place that was emptied is still one
-  pub slot_kept : (old mid : List (Option (Place D))) (n : ℕ) → length mid ≡ length old → IsSlot old n → IsSlot mid n
+  pub slot_kept : (old mid : List (Option (NodePlace D))) (n : ℕ) → length mid ≡ length old → IsSlot old n → IsSlot mid n
   slot_kept old mid n same slot = (slot.0, subst (λ (k : ℕ). n ≤ k) (sym same) slot.1)
 
-  pub there_at : (r : Run) (ended : Bool) (size n : ℕ) (log : Log) (places : List (Option (Place D))) → {left : Rest} → record { ended = ended; nodes = size; log = log; rest = left } ≡ r → r.ended ≡ false
+  pub there_at : (r : Run) (ended : Bool) (size n : ℕ) (log : Log) (places : List (Option (NodePlace D))) → {left : Rest} → record { ended = ended; nodes = size; log = log; rest = left } ≡ r → r.ended ≡ false
       → (ended ≡ false → Shows cells log size places) → IsNode r.nodes n → place_of places n ≢ None
   there_at r ended size n log places view running shows node = there_of r.log r.nodes n places node (was r ended size log places view running shows)
 
-  pub place_at : (r : Run) (ended : Bool) (size n : ℕ) (log : Log) (places : List (Option (Place D))) (x : Place D) → {left : Rest} → record { ended = ended; nodes = size; log = log; rest = left } ≡ r → r.ended ≡ false
+  pub place_at : (r : Run) (ended : Bool) (size n : ℕ) (log : Log) (places : List (Option (NodePlace D))) (x : NodePlace D) → {left : Rest} → record { ended = ended; nodes = size; log = log; rest = left } ≡ r → r.ended ≡ false
       → (ended ≡ false → Shows cells log size places) → IsNode r.nodes n → place_of places n ≡ Some x → PlaceShows cells r.log n x
   place_at r ended size n log places x view running shows node there = place_shows r.log r.nodes n places x node there (was r ended size log places view running shows)

@@ -18,7 +18,7 @@ use Rattle.history_rules.specs.Tickets.{Ticket, is_ticket, last_opened, while_al
 use Rattle.history_rules.specs.Legal.{KeepsRule, IsLegalPast}
 use Rattle.history_rules.proofs.PointLemmas.{operations_stay, documents_stay_lem}
 use Rattle.history_rules.specs.Steps.{is_running_by, version_by}
-use Rattle.history_tables.specs.declared.lines.Begun.{Begun}
+use Rattle.history_tables.specs.declared.lines.BegunLine.{BegunLine}
 use Rattle.history_tables.specs.Begins.{begin, begun_by, open_line, start_by}
 use Rattle.history_tables.proofs.RowLemmas.{by_test, same_at_is}
 use Rattle.history_book.specs.Turns.{AreInTurn}
@@ -100,11 +100,11 @@ tickets_less past at e n lane t v apart is =
 -- ---- searches
 
 -- the line searched the node before the entry, and the entry started no line of the kind
-record Searched (n v : ℕ) (e : Event) (s : Bool) (old : Option Begun) : Type 0 where
+record Searched (n v : ℕ) (e : Event) (s : Bool) (old : Option BegunLine) : Type 0 where
   pub before : IsSearchAt n v old
   pub start : (is_start e && s) ≡ false
 
-line_less : (past : Past) (e : Event) (n v before accepted : ℕ) (s : Bool) (old : Option Begun) → moves_tickets e n ≡ false
+line_less : (past : Past) (e : Event) (n v before accepted : ℕ) (s : Bool) (old : Option BegunLine) → moves_tickets e n ≡ false
     → IsSearchAt n v (if s then begun_by e before accepted old else old) → Searched n v e s old
 line_less past e n v before accepted false old apart is = record { before = is; start = and-false (is_start e) }
 line_less past (Switched m w) n v before accepted true old apart is = record { before = is; start = refl }

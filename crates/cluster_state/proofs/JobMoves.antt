@@ -2,15 +2,15 @@
 use Rattle.std.proofs.Common.{◌≡◌, ◌≤◌, ℕ, List, ◌∷◌, Some, None, Option, Vec, Global, refl, ap, ◌∙◌, sym, subst, arith}
 use Rattle.nrt_base.specs.declared.numbers.At.{At}
 use Rattle.disk_model.specs.Disk.{Cells}
-use Rattle.primary_state.specs.declared.parts.Parts.{Parts as PrimaryParts}
-use Rattle.replica_state.specs.declared.parts.Parts.{Parts as ReplicaParts}
+use Rattle.primary_state.specs.declared.parts.PrimaryParts.{PrimaryParts}
+use Rattle.replica_state.specs.declared.parts.ReplicaParts.{ReplicaParts}
 use Rattle.history_rules.specs.Nodes.{Past, generation_of, version_of}
 use Rattle.history_rules.specs.Lines.{publish_in_flight}
 use Rattle.history_book.specs.Log.{Log, printed, kept}
 use Rattle.history_book.specs.declared.inner.Inner.{Inner}
-use Rattle.cluster_nodes.specs.declared.held.Held.{Held}
+use Rattle.cluster_nodes.specs.declared.held.HeldTicket.{HeldTicket}
 use Rattle.cluster_nodes.specs.declared.nodes.Node.TheVariants.{Primary, Replica}
-use Rattle.cluster_nodes.specs.declared.nodes.Place.{Place}
+use Rattle.cluster_nodes.specs.declared.nodes.NodePlace.{NodePlace}
 use Rattle.cluster_state.specs.Lookups.{Handed, handed_by, or_older, flush_out}
 use Rattle.cluster_state.specs.State.{IsPointAt, WritesAt, FlightShows, HoldsTickets, PrimaryShows, PlaceShows, Shows}
 use Rattle.cluster_state.specs.Moves.{Fewer, Same}
@@ -39,7 +39,7 @@ IsOfJob i = (at : At) → handed_by at i ≡ None
 
 module _ {D : Type 0} (cells : D → Cells) where
   -- an inner entry of a job
-  pub shows_kept : (size : ℕ) (log : Log) (i : Inner) (places : List (Option (Place D))) → IsOfJob i → Shows cells log size places → Shows cells (kept i ∷ log) size places
+  pub shows_kept : (size : ℕ) (log : Log) (i : Inner) (places : List (Option (NodePlace D))) → IsOfJob i → Shows cells log size places → Shows cells (kept i ∷ log) size places
   shows_kept size log i places of_job was =
       shows_still cells size log (kept i ∷ log) places (λ m. same_none (printed log) m) (λ m. fewer_none (printed log) m)
       (λ at h is. out at (flush_out at log) (Some h) is) (λ at none. out at (flush_out at log) None (was.handed at none)) was
@@ -64,14 +64,14 @@ module _ {D : Type 0} (cells : D → Cells) where
     flight = subst (λ (x : PrimaryParts D). FlightShows log (publish_in_flight (printed log)) x.publish x.segs) (sym alters.others) was.flight;
   }
 
-  pub primary_place : (log : Log) (n : ℕ) (p q : PrimaryParts D) (held : Vec Held Global) → AltersStates cells p q → PlaceShows cells log n (record { node = Primary p; held = held }) → PlaceShows cells log n (record { node = Primary q; held = held })
+  pub primary_place : (log : Log) (n : ℕ) (p q : PrimaryParts D) (held : Vec HeldTicket Global) → AltersStates cells p q → PlaceShows cells log n (record { node = Primary p; held = held }) → PlaceShows cells log n (record { node = Primary q; held = held })
   primary_place log n p q held alters was = record {
     node_shows = primary_altered log n p q alters was.node_shows;
     tickets = subst (λ (x : PrimaryParts D). HoldsTickets (printed log) n x.searchers.tickets held.items) (sym alters.others) was.tickets;
   }
 
   -- a replica that has seen no later generation than the present one
-  pub replica_place : (log : Log) (n : ℕ) (r s : ReplicaParts D) (held : Vec Held Global) → AltersJob cells r s → s.seen.0 ≤ generation_of (printed log) → PlaceShows cells log n (record { node = Replica r; held = held })
+  pub replica_place : (log : Log) (n : ℕ) (r s : ReplicaParts D) (held : Vec HeldTicket Global) → AltersJob cells r s → s.seen.0 ≤ generation_of (printed log) → PlaceShows cells log n (record { node = Replica r; held = held })
       → PlaceShows cells log n (record { node = Replica s; held = held })
   replica_place log n r s held alters seen was = record {
     node_shows = record {
@@ -87,7 +87,7 @@ module _ {D : Type 0} (cells : D → Cells) where
 
   -- ---- all of them
 
-  pub shows_put : (size : ℕ) (log : Log) (old new : List (Option (Place D))) (n : ℕ) (x : Place D) → MovesOne n x old new → PlaceShows cells log n x → Shows cells log size old → Shows cells log size new
+  pub shows_put : (size : ℕ) (log : Log) (old new : List (Option (NodePlace D))) (n : ℕ) (x : NodePlace D) → MovesOne n x old new → PlaceShows cells log n x → Shows cells log size old → Shows cells log size new
   shows_put size log old new n x moves mine was = record {
     some = was.some;
     count = moves.count ∙ was.count;
@@ -95,7 +95,7 @@ module _ {D : Type 0} (cells : D → Cells) where
     handed = was.handed;
   }
 
-  pub shows_both : (size : ℕ) (log : Log) (old new : List (Option (Place D))) (p n : ℕ) (x y : Place D) → MovesBoth p n x y old new → PlaceShows cells log p x → PlaceShows cells log n y → Shows cells log size old → Shows cells log size new
+  pub shows_both : (size : ℕ) (log : Log) (old new : List (Option (NodePlace D))) (p n : ℕ) (x y : NodePlace D) → MovesBoth p n x y old new → PlaceShows cells log p x → PlaceShows cells log n y → Shows cells log size old → Shows cells log size new
   shows_both size log old new p n x y moves first second was = record {
     some = was.some;
     count = moves.count ∙ was.count;

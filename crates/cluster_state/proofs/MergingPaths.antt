@@ -11,12 +11,12 @@ use Rattle.seg_reader.specs.Shown.{Shown}
 use Rattle.copy_state.specs.declared.state.CopyState.{CopyState}
 use Rattle.copy_state.specs.States.{meta_names}
 use Rattle.copy_job.specs.Jobs.{Job}
-use Rattle.primary_state.specs.declared.parts.Parts.{Parts as PrimaryParts}
+use Rattle.primary_state.specs.declared.parts.PrimaryParts.{PrimaryParts}
 use Rattle.primary_state.specs.declared.states.Merging.{Merging}
 use Rattle.primary_state.specs.declared.states.Out.{Out}
 use Rattle.primary_state.specs.Merges.{merge_of}
 use Rattle.replica_state.specs.declared.merges.MergeCopies.{MergeCopies}
-use Rattle.replica_state.specs.declared.parts.Parts.{Parts as ReplicaParts}
+use Rattle.replica_state.specs.declared.parts.ReplicaParts.{ReplicaParts}
 use Rattle.replica_state.specs.Merges.{copy_at, copies_without, CopyApart, AreCopiesApart, no_copies}
 use Rattle.replica_state.proofs.Merging.{number_at, all_at}
 use Rattle.cluster_nodes.specs.Given.{overlaps, copies_beside}
@@ -29,10 +29,10 @@ use Rattle.merge_tasks.specs.declared.tasks.OpenMerge.{OpenMerge}
 use Rattle.merge_tasks.specs.TaskLog.{inputs_out, leaves_merges, is_drained}
 use Rattle.merge_tasks.specs.Board.{Board, open_merge, TasksShow}
 use Rattle.merge_tasks.proofs.TaskFrames.{tasks_still}
-use Rattle.cluster_nodes.specs.declared.held.Held.{Held}
+use Rattle.cluster_nodes.specs.declared.held.HeldTicket.{HeldTicket}
 use Rattle.cluster_nodes.specs.declared.nodes.Node.{Node}
 use Rattle.cluster_nodes.specs.declared.nodes.Node.TheVariants.{Primary, Replica, Down}
-use Rattle.cluster_nodes.specs.declared.nodes.Place.{Place}
+use Rattle.cluster_nodes.specs.declared.nodes.NodePlace.{NodePlace}
 use Rattle.cluster_nodes.specs.Places.{place_of}
 use Rattle.cluster_nodes.specs.Outs.{want_of, want_at, states_like, jobs_like}
 use Rattle.cluster_nodes.specs.Changes.{KeepsNode}
@@ -122,8 +122,8 @@ begun_runs seen state c apart = by (nat_lt seen state.primary_gen.0)
     by false k d at = subst (λ (o : Option Job). IsSomeAnd o (λ e. d.want ≡ e.want)) (sym (beside_at (meta_names state.files) c.running apart k d at)) refl
 
 module _ {D : Type 0} where
-  keeps_at : (jobs count : Out → ℕ) (a b : Option (Place D)) (u x : Place D) → a ≡ Some u → b ≡ Some x → KeepsMerges jobs count u.node x.node → PlaceKeepsMerges jobs count a b
-  keeps_at jobs count a b u x ea eb keeps = subst (λ (z : Option (Place D) × Option (Place D)). PlaceKeepsMerges jobs count z.0 z.1) (λ i. (sym ea i, sym eb i)) keeps
+  keeps_at : (jobs count : Out → ℕ) (a b : Option (NodePlace D)) (u x : NodePlace D) → a ≡ Some u → b ≡ Some x → KeepsMerges jobs count u.node x.node → PlaceKeepsMerges jobs count a b
+  keeps_at jobs count a b u x ea eb keeps = subst (λ (z : Option (NodePlace D) × Option (NodePlace D)). PlaceKeepsMerges jobs count z.0 z.1) (λ i. (sym ea i, sym eb i)) keeps
 
 module _ {D : Type 0} (cells : D → Cells) where
   -- a node beside the primary is as before, whatever becomes of copy states
@@ -133,7 +133,7 @@ module _ {D : Type 0} (cells : D → Cells) where
   other_keeps log m jobs count (Down d) other is = tt
 
   -- the primary and another node were moved
-  pub both_keep : (size : ℕ) (log : Log) (old new : List (Option (Place D))) (p n : ℕ) (x y u v : Place D) → MovesBoth p n x y old new → place_of old p ≡ Some u → place_of old n ≡ Some v
+  pub both_keep : (size : ℕ) (log : Log) (old new : List (Option (NodePlace D))) (p n : ℕ) (x y u v : NodePlace D) → MovesBoth p n x y old new → place_of old p ≡ Some u → place_of old n ≡ Some v
       → is_at (primary_of (printed log)) p ≡ true → Shows cells log size old → KeepsMerges (λ s. jobs_like old s size) (λ s. jobs_like new s size) u.node x.node → KeepsMerges (λ s. jobs_like old s size) (λ s. jobs_like new s size) v.node y.node
       → KeepAllMerges size old new
   both_keep size log old new p n x y u v moves there_p there_n primary shows first second m node = tests (n == m) (p == m) refl refl
@@ -144,7 +144,7 @@ module _ {D : Type 0} (cells : D → Cells) where
       count : Out → ℕ
       count s = jobs_like new s size
 
-      others : is_at (primary_of (printed log)) m ≡ false → (o : Option (Place D)) → IsSomeAnd o (PlaceShows cells log m) → PlaceKeepsMerges jobs count o o
+      others : is_at (primary_of (printed log)) m ≡ false → (o : Option (NodePlace D)) → IsSomeAnd o (PlaceShows cells log m) → PlaceKeepsMerges jobs count o o
       others away None none = absurd none
       others away (Some z) is = other_keeps log m jobs count z.node away is.node_shows
 
@@ -153,14 +153,14 @@ module _ {D : Type 0} (cells : D → Cells) where
           (moves.there m ∙ ap (λ (b : Bool). if b then Some y else if p == m then Some x else place_of old m) here) second
       tests false true apart here = keeps_at jobs count (place_of old m) (place_of new m) u x (ap (place_of old) (sym (eqb-true p m here)) ∙ there_p)
           (moves.there m ∙ (ap (λ (b : Bool). if b then Some y else if p == m then Some x else place_of old m) apart ∙ ap (λ (b : Bool). if b then Some x else place_of old m) here)) first
-      tests false false apart away = subst (λ (o : Option (Place D)). PlaceKeepsMerges jobs count (place_of old m) o)
+      tests false false apart away = subst (λ (o : Option (NodePlace D)). PlaceKeepsMerges jobs count (place_of old m) o)
           (sym (moves.there m ∙ (ap (λ (b : Bool). if b then Some y else if p == m then Some x else place_of old m) apart ∙ ap (λ (b : Bool). if b then Some x else place_of old m) away)))
           (others (test_apart (primary_of (printed log)) p m away primary) (place_of old m) (shows.each m node))
 
   -- ---- a node of which a ticket was opened or closed
 
   -- its job is as it was
-  pub like_want : (x y : Place D) → KeepsNode cells x.node y.node → want_at (Some y) ≡ want_at (Some x)
+  pub like_want : (x y : NodePlace D) → KeepsNode cells x.node y.node → want_at (Some y) ≡ want_at (Some x)
   like_want x y = by x.node y.node
     where
       by : (a b : Node D) → KeepsNode cells a b → want_at (Some (record { node = b; held = y.held })) ≡ want_at (Some (record { node = a; held = x.held }))
@@ -189,7 +189,7 @@ module _ {D : Type 0} (cells : D → Cells) where
 
   -- ---- one place was taken out and put back
 
-  module _ (board : Board) (r : Run) (ended : Bool) (b0 b1 : Sheet) (old mid new : List (Option (Place D))) (n : ℕ) (x y : Place D) {rest : Rest} (view : record { ended = ended; nodes = b0.nodes; log = b0.log; rest = rest } ≡ r)
+  module _ (board : Board) (r : Run) (ended : Bool) (b0 b1 : Sheet) (old mid new : List (Option (NodePlace D))) (n : ℕ) (x y : NodePlace D) {rest : Rest} (view : record { ended = ended; nodes = b0.nodes; log = b0.log; rest = rest } ≡ r)
       (e1 : b1.log ≡ b0.log) (n1 : b1.nodes ≡ b0.nodes) (c1 : b1.cut ≡ b0.cut) (node : IsNode r.nodes n) (put : PutsBack cells old mid new n x) (there : place_of old n ≡ Some y) (want : want_at (Some x) ≡ want_at (Some y))
       (keeps : (jobs count : Out → ℕ) → ((s : Out) → count s ≤ jobs s) → KeepsMerges jobs count y.node x.node) (was : MergesStand b0.log b0.cut b0.nodes board old) where
     put_keeps : KeepAllMerges b0.nodes old new
@@ -205,7 +205,7 @@ module _ {D : Type 0} (cells : D → Cells) where
 
   -- ---- publishes and promotions
 
-  module _ (size : ℕ) (log : Log) (cut : Bool) (board : Board) (old new : List (Option (Place D))) (n : ℕ) (q : PrimaryParts D) (held : Vec Held Global) (moves_one : MovesOne n (record { node = Primary q; held = held }) old new) (node : IsNode size n)
+  module _ (size : ℕ) (log : Log) (cut : Bool) (board : Board) (old new : List (Option (NodePlace D))) (n : ℕ) (q : PrimaryParts D) (held : Vec HeldTicket Global) (moves_one : MovesOne n (record { node = Primary q; held = held }) old new) (node : IsNode size n)
       (shows : Shows cells log size old) (was : MergesStand log cut size board old) where
     abbrev jobs_was : Out → ℕ
     jobs_was s = jobs_like old s size
@@ -226,7 +226,7 @@ module _ {D : Type 0} (cells : D → Cells) where
         (λ m z at apart both. others_stand now after m z.node (away m apart) both.0.node_shows both.1) mine
 
     -- a publish has ended: what was cut over is in the point
-    pub stand_published : (at : At) (g : Gen) (v : Version) (p : PrimaryParts D) (before : Vec Held Global) → place_of old n ≡ Some (record { node = Primary p; held = before }) → is_at (primary_of (printed log)) n ≡ true
+    pub stand_published : (at : At) (g : Gen) (v : Version) (p : PrimaryParts D) (before : Vec HeldTicket Global) → place_of old n ≡ Some (record { node = Primary p; held = before }) → is_at (primary_of (printed log)) n ≡ true
         → q.has_cut_over ≡ false → q.merges ≡ p.merges → q.states ≡ p.states → MergesStand (shown at (Published g v) ∷ log) false size board new
     stand_published at g v p before there primary uncut merges states = record {
       tasks = tasks_still size log board at (Published g v) refl was.tasks;
@@ -280,7 +280,7 @@ module _ {D : Type 0} (cells : D → Cells) where
         }
 
   -- the same of a publish in the terms of a call
-  pub put_published : (board : Board) (r : Run) (ended : Bool) (b0 b1 b2 : Sheet) (old mid new : List (Option (Place D))) (n : NodeNo) (p q : PrimaryParts D) (held : Vec Held Global) (at : At) (g : Gen) (v : Version) {rest : Rest}
+  pub put_published : (board : Board) (r : Run) (ended : Bool) (b0 b1 b2 : Sheet) (old mid new : List (Option (NodePlace D))) (n : NodeNo) (p q : PrimaryParts D) (held : Vec HeldTicket Global) (at : At) (g : Gen) (v : Version) {rest : Rest}
       → record { ended = ended; nodes = b0.nodes; log = b0.log; rest = rest } ≡ r → r.ended ≡ false → (ended ≡ false → Shows cells b0.log b0.nodes old) → b1.log ≡ b0.log → b1.nodes ≡ b0.nodes
       → b2.log ≡ shown at (Published g v) ∷ b1.log → b2.nodes ≡ b1.nodes → b2.cut ≡ false → IsNode r.nodes n.0 → primary_of (printed r.log) ≡ Some n → PutsBack cells old mid new n.0 (record { node = Primary q; held = held })
       → place_of old n.0 ≡ Some (record { node = Primary p; held = held }) → q.has_cut_over ≡ false → q.merges ≡ p.merges → q.states ≡ p.states → MergesStand b0.log b0.cut b0.nodes board old → MergesStand b2.log b2.cut b2.nodes board new

@@ -6,11 +6,11 @@ use Rattle.nrt_base.specs.declared.numbers.At.{At}
 use Rattle.nrt_base.specs.declared.numbers.NodeNo.{NodeNo}
 use Rattle.seg_reader.specs.Shown.{Shown}
 use Rattle.copy_job.specs.Jobs.{Job}
-use Rattle.primary_state.specs.declared.parts.Parts.{Parts as PrimaryParts}
+use Rattle.primary_state.specs.declared.parts.PrimaryParts.{PrimaryParts}
 use Rattle.primary_state.specs.declared.states.Merging.{Merging}
 use Rattle.primary_state.specs.declared.states.Out.{Out}
 use Rattle.primary_state.specs.Merges.{merge_of}
-use Rattle.replica_state.specs.declared.parts.Parts.{Parts as ReplicaParts}
+use Rattle.replica_state.specs.declared.parts.ReplicaParts.{ReplicaParts}
 use Rattle.replica_state.specs.Merges.{copy_at}
 use Rattle.history_rules.specs.declared.entry.Event.{Event}
 use Rattle.history_rules.specs.declared.entry.Event.TheVariants.{Crashed, Promoted, Merging as MergingEvent, Drained}
@@ -25,7 +25,7 @@ use Rattle.merge_tasks.specs.Board.{Board, open_merge, TasksShow}
 use Rattle.merge_tasks.proofs.TaskFrames.{tasks_still, tasks_kept}
 use Rattle.cluster_nodes.specs.declared.nodes.Node.{Node}
 use Rattle.cluster_nodes.specs.declared.nodes.Node.TheVariants.{Primary, Replica, Down}
-use Rattle.cluster_nodes.specs.declared.nodes.Place.{Place}
+use Rattle.cluster_nodes.specs.declared.nodes.NodePlace.{NodePlace}
 use Rattle.cluster_nodes.specs.Places.{place_of}
 use Rattle.cluster_nodes.specs.Outs.{want_at, states_like, jobs_like}
 use Rattle.cluster_nodes.specs.JobPlaces.{MovesOne, MovesBoth}
@@ -96,14 +96,14 @@ module _ {D : Type 0} where
 
   -- ---- all nodes
 
-  place_stands : (log now : Log) (cut : Bool) (jobs count : Out → ℕ) (rows : List OpenMerge) (n : ℕ) → InputsStay log now → (a b : Option (Place D)) → PlaceKeepsMerges jobs count a b
+  place_stands : (log now : Log) (cut : Bool) (jobs count : Out → ℕ) (rows : List OpenMerge) (n : ℕ) → InputsStay log now → (a b : Option (NodePlace D)) → PlaceKeepsMerges jobs count a b
       → IsSomeAnd a (λ z. NodeMerges log cut jobs rows n z.node) → IsSomeAnd b (λ z. NodeMerges now cut count rows n z.node)
   place_stands log now cut jobs count rows n more (Some x) (Some y) keeps is = node_stands log now cut jobs count rows n more x.node y.node keeps is
   place_stands log now cut jobs count rows n more None b keeps is = absurd is
   place_stands log now cut jobs count rows n more (Some x) None keeps is = absurd keeps
 
   -- merges stand over what leaves them
-  pub stand_moved : (log now : Log) (cut : Bool) (size : ℕ) (board : Board) (old new : List (Option (Place D))) → InputsStay log now → TasksShow size now board → (primary_of (printed now) ≡ None → primary_of (printed log) ≡ None)
+  pub stand_moved : (log now : Log) (cut : Bool) (size : ℕ) (board : Board) (old new : List (Option (NodePlace D))) → InputsStay log now → TasksShow size now board → (primary_of (printed now) ≡ None → primary_of (printed log) ≡ None)
       → KeepAllMerges size old new → MergesStand log cut size board old → MergesStand now cut size board new
   stand_moved log now cut size board old new more tasks vacant keeps s = record {
     tasks = tasks;
@@ -113,15 +113,15 @@ module _ {D : Type 0} where
   }
 
   -- places that are as they were
-  pub all_keep : (size : ℕ) (board : Board) (log : Log) (cut : Bool) (places : List (Option (Place D))) → MergesStand log cut size board places → KeepAllMerges size places places
+  pub all_keep : (size : ℕ) (board : Board) (log : Log) (cut : Bool) (places : List (Option (NodePlace D))) → MergesStand log cut size board places → KeepAllMerges size places places
   all_keep size board log cut places s n node = by (place_of places n) (s.each n node)
     where
-      by : (o : Option (Place D)) → IsSomeAnd o (λ z. NodeMerges log cut (λ s. jobs_like places s size) board.rows n z.node) → PlaceKeepsMerges (λ s. jobs_like places s size) (λ s. jobs_like places s size) o o
+      by : (o : Option (NodePlace D)) → IsSomeAnd o (λ z. NodeMerges log cut (λ s. jobs_like places s size) board.rows n z.node) → PlaceKeepsMerges (λ s. jobs_like places s size) (λ s. jobs_like places s size) o o
       by None none = absurd none
       by (Some x) is = node_keeps (λ s. jobs_like places s size) (λ s. jobs_like places s size) x.node (λ s. omega arith)
 
   -- one node has moved, whose job is of the state that it was
-  pub one_keeps : (size : ℕ) (board : Board) (log : Log) (cut : Bool) (old new : List (Option (Place D))) (n : ℕ) (x y : Place D) → MovesOne n x old new → IsNode size n → place_of old n ≡ Some y → want_at (Some x) ≡ want_at (Some y)
+  pub one_keeps : (size : ℕ) (board : Board) (log : Log) (cut : Bool) (old new : List (Option (NodePlace D))) (n : ℕ) (x y : NodePlace D) → MovesOne n x old new → IsNode size n → place_of old n ≡ Some y → want_at (Some x) ≡ want_at (Some y)
       → ((jobs count : Out → ℕ) → ((s : Out) → count s ≤ jobs s) → KeepsMerges jobs count y.node x.node) → MergesStand log cut size board old → KeepAllMerges size old new
   one_keeps size board log cut old new n x y moves node there want keeps s m at =
       by_test (n == m) (λ b. (n == m) ≡ b → PlaceKeepsMerges (λ s. jobs_like old s size) (λ s. jobs_like new s size) (place_of old m) (place_of new m)) here apart refl
@@ -131,17 +131,17 @@ module _ {D : Type 0} where
 
       here : (n == m) ≡ true → (n == m) ≡ true → PlaceKeepsMerges (λ s. jobs_like old s size) (λ s. jobs_like new s size) (place_of old m) (place_of new m)
       here is again =
-          subst (λ (o : Option (Place D)). PlaceKeepsMerges (λ s. jobs_like old s size) (λ s. jobs_like new s size) (place_of old m) o) (sym (moves.there m ∙ ap (λ (b : Bool). if b then Some x else place_of old m) is))
-          (subst (λ (o : Option (Place D)). PlaceKeepsMerges (λ s. jobs_like old s size) (λ s. jobs_like new s size) o (Some x)) (sym (ap (place_of old) (sym (same_number n m is)) ∙ there))
+          subst (λ (o : Option (NodePlace D)). PlaceKeepsMerges (λ s. jobs_like old s size) (λ s. jobs_like new s size) (place_of old m) o) (sym (moves.there m ∙ ap (λ (b : Bool). if b then Some x else place_of old m) is))
+          (subst (λ (o : Option (NodePlace D)). PlaceKeepsMerges (λ s. jobs_like old s size) (λ s. jobs_like new s size) o (Some x)) (sym (ap (place_of old) (sym (same_number n m is)) ∙ there))
           (keeps (λ s. jobs_like old s size) (λ s. jobs_like new s size) low))
         where
           same_number : (a b : ℕ) → (a == b) ≡ true → a ≡ b
           same_number a b is = grind (arith, nat_tests, is)
 
       apart : (n == m) ≡ false → (n == m) ≡ false → PlaceKeepsMerges (λ s. jobs_like old s size) (λ s. jobs_like new s size) (place_of old m) (place_of new m)
-      apart is again = subst (λ (o : Option (Place D)). PlaceKeepsMerges (λ s. jobs_like old s size) (λ s. jobs_like new s size) (place_of old m) o) (sym (other_place n x old new m moves is)) (by (place_of old m) (s.each m at))
+      apart is again = subst (λ (o : Option (NodePlace D)). PlaceKeepsMerges (λ s. jobs_like old s size) (λ s. jobs_like new s size) (place_of old m) o) (sym (other_place n x old new m moves is)) (by (place_of old m) (s.each m at))
         where
-          by : (o : Option (Place D)) → IsSomeAnd o (λ z. NodeMerges log cut (λ s. jobs_like old s size) board.rows m z.node) → PlaceKeepsMerges (λ s. jobs_like old s size) (λ s. jobs_like new s size) o o
+          by : (o : Option (NodePlace D)) → IsSomeAnd o (λ z. NodeMerges log cut (λ s. jobs_like old s size) board.rows m z.node) → PlaceKeepsMerges (λ s. jobs_like old s size) (λ s. jobs_like new s size) o o
           by None none = absurd none
           by (Some z) is = node_keeps (λ s. jobs_like old s size) (λ s. jobs_like new s size) z.node low
 
@@ -161,7 +161,7 @@ inputs_kept : (log : Log) (i : Inner) → leaves_tasks i ≡ true → InputsStay
 inputs_kept log (MergeOut line seg inputs) leaves n x is = absurd (true≢false (sym leaves))
 inputs_kept log i leaves n x is = is
 
-module _ {D : Type 0} (board : Board) (old new : List (Option (Place D))) where
+module _ {D : Type 0} (board : Board) (old new : List (Option (NodePlace D))) where
   -- merges stand over a printed entry that leaves them
   pub stand_shown : (b0 b1 b2 : Sheet) (x : At) (e : Event) → b1.log ≡ b0.log → b1.nodes ≡ b0.nodes → b1.cut ≡ b0.cut → b2.log ≡ shown x e ∷ b1.log → b2.nodes ≡ b1.nodes → b2.cut ≡ b1.cut
       → leaves_merges e (primary_of (printed b0.log)) ≡ true → KeepAllMerges b0.nodes old new → MergesStand b0.log b0.cut b0.nodes board old → MergesStand b2.log b2.cut b2.nodes board new

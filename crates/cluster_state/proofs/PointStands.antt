@@ -15,7 +15,7 @@ use Rattle.searcher_switch.proofs.Standing.{stands_along}
 use Rattle.copy_state.specs.declared.state.CopyState.{CopyState}
 use Rattle.copy_state.specs.declared.meta.FileMetaData.{FileMetaData}
 use Rattle.copy_state.specs.States.{meta_names}
-use Rattle.primary_state.specs.declared.parts.Parts.{Parts as PrimaryParts}
+use Rattle.primary_state.specs.declared.parts.PrimaryParts.{PrimaryParts}
 use Rattle.searcher_switch.specs.Tickets.{ticket_names}
 use Rattle.searcher_switch.specs.Searching.{searcher_names}
 use Rattle.primary_state.specs.Primary.{IsPrimary, primary_names, rest_names, loose_of}

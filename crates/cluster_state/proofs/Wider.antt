@@ -16,12 +16,12 @@ use Rattle.seg_reader.specs.Stands.{IsLiveFileIn, IsSegmentIn, StandsFor}
 use Rattle.copy_state.specs.declared.meta.FileMetaData.{FileMetaData}
 use Rattle.copy_state.specs.States.{meta_in}
 use Rattle.copy_job.specs.Jobs.{Job as CopyingJob}
-use Rattle.primary_state.specs.declared.parts.Parts.{Parts as PrimaryParts}
+use Rattle.primary_state.specs.declared.parts.PrimaryParts.{PrimaryParts}
 use Rattle.primary_state.specs.declared.states.Out.{Out}
 use Rattle.primary_state.specs.Primary.{IsPrimary}
 use Rattle.replica_state.specs.Given.{IsLasting, HasMeta}
 use Rattle.replica_state.specs.declared.job.PointJob.{PointJob}
-use Rattle.replica_state.specs.declared.parts.Parts.{Parts as ReplicaParts}
+use Rattle.replica_state.specs.declared.parts.ReplicaParts.{ReplicaParts}
 use Rattle.replica_state.specs.Replica.{IsWholeReplica, HasMetas, IsMergeCopy}
 use Rattle.replica_state.specs.Sources.{CopiesFrom, HeldReadAs, IsSourced}
 use Rattle.replica_state.proofs.Metas.{listed_meta, some_meta}

@@ -23,7 +23,7 @@ use Rattle.history_rules.specs.Commits.{has_committed}
 use Rattle.history_rules.specs.Tasks.{merge_count}
 use Rattle.history_book.specs.Laws.{may_find}
 use Rattle.history_book.specs.Log.{Log, printed}
-use Rattle.cluster_nodes.specs.declared.nodes.Place.{Place}
+use Rattle.cluster_nodes.specs.declared.nodes.NodePlace.{NodePlace}
 use Rattle.cluster_nodes.specs.Places.{Disk, place_of, disk_at}
 
 -- what a writer needs of a point to go on from it: no more segments than publishes had puts, each with a live row where no merge was
@@ -90,7 +90,7 @@ module _ {D : Type 0} where
     pub dir : IfSome disk.dir (DirShows source cells past n)
 
   -- the same of all nodes
-  abbrev pub DisksShow : (Name → Content) → (D → Cells) → Log → ℕ → List (Option (Place D)) → Type 0
+  abbrev pub DisksShow : (Name → Content) → (D → Cells) → Log → ℕ → List (Option (NodePlace D)) → Type 0
   DisksShow source cells log size places = (n : ℕ) → IsNode size n → IsSomeAnd (disk_at (place_of places n)) (DiskShows source cells (printed log) n)
 
 -- what points rest on: versions, generations, publishes with puts and merges become no less, and the documents of a version are what they

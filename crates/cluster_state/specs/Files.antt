@@ -7,13 +7,13 @@ use Rattle.disk_model.specs.Disk.{Name, Content, Cells}
 use Rattle.file_names.specs.Names.{live_name_of}
 use Rattle.segment_infos.specs.declared.infos.SegRecord.{SegRecord}
 use Rattle.segment_steps.specs.Next.{live_base}
-use Rattle.primary_state.specs.declared.parts.Parts.{Parts as PrimaryParts}
+use Rattle.primary_state.specs.declared.parts.PrimaryParts.{PrimaryParts}
 use Rattle.primary_state.specs.declared.states.Out.{Out}
 use Rattle.primary_state.specs.Primary.{loose_of, IsUnwritten}
 use Rattle.primary_state.specs.Held.{IsUndrawn}
 use Rattle.replica_state.specs.Given.{HasMeta, IsLasting}
 use Rattle.replica_state.specs.declared.job.PointJob.{PointJob}
-use Rattle.replica_state.specs.declared.parts.Parts.{Parts as ReplicaParts}
+use Rattle.replica_state.specs.declared.parts.ReplicaParts.{ReplicaParts}
 use Rattle.replica_state.specs.Sources.{HeldReadAs, IsSourced}
 use Rattle.history_rules.specs.Nodes.{Past, IsNode, newest_version, generation_of, version_of}
 use Rattle.history_rules.specs.Lines.{start_entry, before_start, copy_in_flight}
@@ -25,7 +25,7 @@ use Rattle.history_book.specs.Jobs.{job_at}
 use Rattle.merge_tasks.specs.TaskLog.{carried_out}
 use Rattle.cluster_nodes.specs.declared.nodes.Node.{Node}
 use Rattle.cluster_nodes.specs.declared.nodes.Node.TheVariants.{Primary, Replica, Down}
-use Rattle.cluster_nodes.specs.declared.nodes.Place.{Place}
+use Rattle.cluster_nodes.specs.declared.nodes.NodePlace.{NodePlace}
 use Rattle.cluster_nodes.specs.Places.{place_of}
 use Rattle.cluster_state.specs.FilesOut.{file_out}
 use Rattle.cluster_state.specs.Names.{NamesShow}
@@ -95,7 +95,7 @@ module _ {D : Type 0} where
 
   -- What each name of a file means, and that all nodes have it so, with their commits, and what crashes left of them; what means
   -- something is drawn, and so is each name that stands at a running node; and what was handed out of a merged file is what its name means.
-  pub record FilesShow (cells : D → Cells) (log : Log) (size : ℕ) (places : List (Option (Place D))) : Type 0 where
+  pub record FilesShow (cells : D → Cells) (log : Log) (size : ℕ) (places : List (Option (NodePlace D))) : Type 0 where
     pub source : Name → Content
     pub drawn : MeansDrawn source (printed log)
     pub each : (n : ℕ) → IsNode size n

@@ -3,7 +3,7 @@ use Rattle.std.specs.Prelude.{ℕ, ◌≡◌, ◌∷◌, ◌+◌, Bool, true, fa
 use Rattle.nrt_base.specs.declared.numbers.At.{At}
 use Rattle.disk_model.specs.Disk.{Name, Cells}
 use Rattle.searcher_switch.specs.Appearing.{AppearsOnly}
-use Rattle.primary_state.specs.declared.parts.Parts.{Parts as PrimaryParts}
+use Rattle.primary_state.specs.declared.parts.PrimaryParts.{PrimaryParts}
 use Rattle.primary_state.specs.Held.{IsOwnFile}
 use Rattle.primary_state.specs.Primary.{KeepsHeldBytes, loose_of}
 use Rattle.primary_state.specs.Calls.{DrawsOnly, HoldsNoNew}

@@ -3,7 +3,7 @@ use Rattle.std.specs.Prelude.{ℕ, List, [], map, Option, Some, None}
 use Rattle.copy_job.specs.Parts.{own_names}
 use Rattle.replica_state.specs.declared.job.PointJob.{PointJob}
 use Rattle.cluster_nodes.specs.declared.nodes.Node.TheVariants.{Primary, Replica, Down}
-use Rattle.cluster_nodes.specs.declared.nodes.Place.{Place}
+use Rattle.cluster_nodes.specs.declared.nodes.NodePlace.{NodePlace}
 use Rattle.cluster_state.specs.Run.{JobFiles, no_files}
 
 -- those of a job, where there is one, at a node that has seen this generation
@@ -13,10 +13,10 @@ job_files seen (Some j) = record { seen = seen; missing = j.copy.missing; brough
 
 module _ {D : Type 0} where
   -- those of the job of the node in a place
-  abbrev pub place_files : Option (Place D) → JobFiles
+  abbrev pub place_files : Option (NodePlace D) → JobFiles
   place_files None = no_files
   place_files (Some place) = elim place.node [ Primary p ↦ no_files | Replica r ↦ job_files r.seen.0 r.job | Down d ↦ no_files ]
 
   -- the same of each node, in order
-  abbrev pub jobs_in : List (Option (Place D)) → List JobFiles
+  abbrev pub jobs_in : List (Option (NodePlace D)) → List JobFiles
   jobs_in places = map place_files places

@@ -6,7 +6,7 @@ use Rattle.seg_reader.specs.Shown.{Shown}
 use Rattle.history_rules.specs.Nodes.{Past}
 use Rattle.history_rules.specs.Lines.{same_at, NodeSurvives}
 use Rattle.history_tables.specs.declared.lines.Start.TheVariants.{Searching}
-use Rattle.history_tables.specs.declared.lines.Begun.{Begun}
+use Rattle.history_tables.specs.declared.lines.BegunLine.{BegunLine}
 use Rattle.history_tables.specs.Begins.{open_line}
 use Rattle.history_book.specs.Log.{Log}
 use Rattle.history_book.specs.declared.inner.Inner.{Inner}
@@ -32,7 +32,7 @@ flush_out at [] = None
 flush_out at (Kept i ∷ log) = or_older (flush_out at log) (handed_by at i)
 flush_out at (m ∷ log) = flush_out at log
 
-abbrev pub IsSearchAt : ℕ → ℕ → Option Begun → Type 0
+abbrev pub IsSearchAt : ℕ → ℕ → Option BegunLine → Type 0
 IsSearchAt n v None = ⊥
 IsSearchAt n v (Some b) = elim b.start [ Searching m w ↦ (m.0 ≡ n) × (w.0 ≡ v) | _ ↦ ⊥ ]
 

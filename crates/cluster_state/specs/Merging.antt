@@ -5,13 +5,13 @@ use Rattle.disk_model.specs.Disk.{Name, Content}
 use Rattle.copy_state.specs.States.{meta_names, IsCopyState}
 use Rattle.copy_job.specs.Jobs.{Job}
 use Rattle.segment_steps.specs.Given.{Merged}
-use Rattle.primary_state.specs.declared.parts.Parts.{Parts as PrimaryParts}
+use Rattle.primary_state.specs.declared.parts.PrimaryParts.{PrimaryParts}
 use Rattle.primary_state.specs.declared.states.Merging.{Merging}
 use Rattle.primary_state.specs.declared.states.Out.{Out}
 use Rattle.primary_state.specs.Merges.{merge_of}
 use Rattle.primary_state.specs.States.{out_of, IsMetaIn}
 use Rattle.primary_state.specs.Written.{names_of}
-use Rattle.replica_state.specs.declared.parts.Parts.{Parts as ReplicaParts}
+use Rattle.replica_state.specs.declared.parts.ReplicaParts.{ReplicaParts}
 use Rattle.replica_state.specs.Merges.{copy_at}
 use Rattle.history_rules.specs.Nodes.{IsNode, primary_of}
 use Rattle.history_book.specs.Log.{Log, printed}
@@ -24,7 +24,7 @@ use Rattle.merge_tasks.specs.TaskLog.{inputs_out, merge_task}
 use Rattle.merge_tasks.specs.Board.{Board, open_merge, spread_at, is_sent_in, TasksShow}
 use Rattle.cluster_nodes.specs.declared.nodes.Node.{Node}
 use Rattle.cluster_nodes.specs.declared.nodes.Node.TheVariants.{Primary, Replica, Down}
-use Rattle.cluster_nodes.specs.declared.nodes.Place.{Place}
+use Rattle.cluster_nodes.specs.declared.nodes.NodePlace.{NodePlace}
 use Rattle.cluster_nodes.specs.Places.{place_of}
 use Rattle.cluster_nodes.specs.Outs.{one_like, states_like, jobs_like}
 
@@ -100,7 +100,7 @@ module _ {D : Type 0} where
 
   -- All that is true of merges: the log shows the tasks, and those that are posted are fit; each node has what it has to do with them; and
   -- without a primary nothing is in flight or cut over.
-  pub record MergesStand (log : Log) (cut : Bool) (size : ℕ) (board : Board) (places : List (Option (Place D))) : Type 0 where
+  pub record MergesStand (log : Log) (cut : Bool) (size : ℕ) (board : Board) (places : List (Option (NodePlace D))) : Type 0 where
     pub tasks : TasksShow size log board
     pub fit : All (λ p. IsFitKind p.kind) board.posted
     pub each : (n : ℕ) → IsNode size n → IsSomeAnd (place_of places n) (λ place. NodeMerges log cut (λ s. jobs_like places s size) board.rows n place.node)
@@ -121,10 +121,10 @@ module _ {D : Type 0} where
   KeepsMerges jobs now x y = ⊥
 
   -- the same of what is in a place
-  abbrev pub PlaceKeepsMerges : (Out → ℕ) → (Out → ℕ) → Option (Place D) → Option (Place D) → Type 0
+  abbrev pub PlaceKeepsMerges : (Out → ℕ) → (Out → ℕ) → Option (NodePlace D) → Option (NodePlace D) → Type 0
   PlaceKeepsMerges jobs now (Some x) (Some y) = KeepsMerges jobs now x.node y.node
   PlaceKeepsMerges jobs now x y = ⊥
 
   -- the same of all nodes
-  abbrev pub KeepAllMerges : ℕ → List (Option (Place D)) → List (Option (Place D)) → Type 0
+  abbrev pub KeepAllMerges : ℕ → List (Option (NodePlace D)) → List (Option (NodePlace D)) → Type 0
   KeepAllMerges size old new = (n : ℕ) → IsNode size n → PlaceKeepsMerges (λ s. jobs_like old s size) (λ s. jobs_like new s size) (place_of old n) (place_of new n)

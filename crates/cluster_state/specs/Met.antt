@@ -14,7 +14,7 @@ use Rattle.history_rules.specs.Nodes.{Past, is_running}
 use Rattle.history_rules.specs.Faults.{is_planned}
 use Rattle.history_book.specs.Log.{Log, mark_for}
 use Rattle.history_book.specs.declared.inner.Mark.{Mark}
-use Rattle.cluster_nodes.specs.declared.nodes.Place.{Place}
+use Rattle.cluster_nodes.specs.declared.nodes.NodePlace.{NodePlace}
 use Rattle.cluster_nodes.specs.Places.{dir_of}
 
 -- how often a disk has failed by a plan of one call, and how often by a stop
@@ -58,10 +58,10 @@ has_risen p n (o ∷ olds) (w ∷ news) = ((p == n) && (nat_lt o.0 w.0 || nat_lt
 
 module _ {D : Type 0} (planned : D → Plans) where
   -- what the disk of the node in a place has met
-  abbrev pub met_in : Option (Place D) → ℕ × ℕ
+  abbrev pub met_in : Option (NodePlace D) → ℕ × ℕ
   met_in None = (0, 0)
   met_in (Some place) = failures_by_plan (planned (dir_of place.node))
 
 -- all that is true of a cluster that runs, of its nodes in their places
-abbrev pub ClusterStands : {D : Type 0} → (D → Cells) → ℕ → List (Option (Place D)) → Bool → Board → Log → Type 0
+abbrev pub ClusterStands : {D : Type 0} → (D → Cells) → ℕ → List (Option (NodePlace D)) → Bool → Board → Log → Type 0
 ClusterStands cells size places cut board log = Shows cells log size places × FilesShow cells log size places × MergesStand log cut size board places

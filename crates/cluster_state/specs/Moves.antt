@@ -12,8 +12,8 @@ use Rattle.history_rules.specs.Tickets.{open_ticket, IsTicketOf}
 use Rattle.history_rules.specs.Tasks.{merge_count}
 use Rattle.script_serving.specs.Refusals.{put_publishes}
 use Rattle.cluster_state.specs.Lookups.{IsSearching}
-use Rattle.cluster_nodes.specs.declared.held.Key.{Key}
-use Rattle.cluster_nodes.specs.declared.held.Key.TheVariants.{Search}
+use Rattle.cluster_nodes.specs.declared.held.HeldKey.{HeldKey}
+use Rattle.cluster_nodes.specs.declared.held.HeldKey.TheVariants.{Search}
 use Rattle.cluster_nodes.specs.Held.{same_key}
 use Rattle.cluster_state.specs.State.{StandForVersion, ticket_key}
 
@@ -77,6 +77,6 @@ pub record Same (past now : Past) (n : ℕ) : Type 0 where
   pub flight : is_at (primary_of past) n ≡ true → FlightStays past now
 
 -- what was held for this is held no more: the lane's tickets and the searches at the node are others, and were there before
-pub record EndsKey (past now : Past) (n : ℕ) (key : Key) : Type 0 where
+pub record EndsKey (past now : Past) (n : ℕ) (key : HeldKey) : Type 0 where
   pub tickets : (lane t v : ℕ) → IsTicketOf n v (open_ticket lane t now) → (same_key key (ticket_key lane t) ≡ false) × IsTicketOf n v (open_ticket lane t past)
   pub searches : (at : At) (v : ℕ) → IsSearching now at n v → (same_key key (Search at) ≡ false) × IsSearching past at n v

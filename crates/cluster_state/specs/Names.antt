@@ -6,7 +6,7 @@ use Rattle.file_names.specs.Names.{is_documents_name}
 use Rattle.file_deleter.specs.Holdings.{IsThere}
 use Rattle.seg_reader.specs.Shown.{Shown}
 use Rattle.searcher_switch.specs.declared.open.Open.{Open}
-use Rattle.searcher_switch.specs.declared.open.Point.{Point}
+use Rattle.searcher_switch.specs.declared.open.SearchPoint.{SearchPoint}
 use Rattle.primary_state.specs.Primary.{loose_of}
 use Rattle.history_rules.specs.Nodes.{Past}
 use Rattle.history_rules.specs.Points.{is_drawn}
@@ -15,7 +15,7 @@ use Rattle.cluster_nodes.specs.declared.nodes.Node.{Node}
 use Rattle.cluster_nodes.specs.declared.nodes.Node.TheVariants.{Primary, Replica, Down}
 
 -- where a point has segments, one of its names is that of stored documents
-abbrev pub NamesDocuments : Point Shown → Type 0
+abbrev pub NamesDocuments : SearchPoint Shown → Type 0
 NamesDocuments point = 0 < length point.readers → list_any is_documents_name point.names ≡ true
 
 -- Each name that stands in the directory of a running node is one that a file may have, the point of each open ticket names its

@@ -1,7 +1,7 @@
 -- The faults that are planned for the disks of a cluster's nodes.
 use Rattle.std.specs.Prelude.{List, map, Option, Some, None}
 use Rattle.disk_model.specs.Faults.{Plans}
-use Rattle.cluster_nodes.specs.declared.nodes.Place.{Place}
+use Rattle.cluster_nodes.specs.declared.nodes.NodePlace.{NodePlace}
 use Rattle.cluster_nodes.specs.Places.{dir_of}
 
 -- none, of a disk that is not there
@@ -10,10 +10,10 @@ no_plans = record { once = 0; stop = 0; met_once = 0; met_stop = 0 }
 
 module _ {D : Type 0} (planned : D → Plans) where
   -- those for the disk of the node in a place
-  abbrev pub place_plans : Option (Place D) → Plans
+  abbrev pub place_plans : Option (NodePlace D) → Plans
   place_plans None = no_plans
   place_plans (Some place) = planned (dir_of place.node)
 
   -- the same of each node, in order
-  abbrev pub plans_in : List (Option (Place D)) → List Plans
+  abbrev pub plans_in : List (Option (NodePlace D)) → List Plans
   plans_in places = map place_plans places

@@ -3,7 +3,7 @@ use Rattle.std.specs.Prelude.{ℕ, List, [], ◌∷◌, Option, Some, None}
 use Rattle.cluster_nodes.specs.Given.{merge_sizes}
 use Rattle.cluster_nodes.specs.declared.nodes.Node.{Node}
 use Rattle.cluster_nodes.specs.declared.nodes.Node.TheVariants.{Primary, Replica, Down}
-use Rattle.cluster_nodes.specs.declared.nodes.Place.{Place}
+use Rattle.cluster_nodes.specs.declared.nodes.NodePlace.{NodePlace}
 
 module _ {D : Type 0} where
   -- those of this node, where it is the primary
@@ -13,7 +13,7 @@ module _ {D : Type 0} where
   node_sizes (Down d) = []
 
   -- those of the primary, where it is there: no two nodes are
-  abbrev pub sizes_in : List (Option (Place D)) → List (Option ℕ)
+  abbrev pub sizes_in : List (Option (NodePlace D)) → List (Option ℕ)
   sizes_in [] = []
   sizes_in (None ∷ places) = sizes_in places
   sizes_in (Some place ∷ places) = elim place.node [ Primary p ↦ merge_sizes p | Replica r ↦ sizes_in places | Down d ↦ sizes_in places ]

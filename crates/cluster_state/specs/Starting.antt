@@ -7,10 +7,10 @@ use Rattle.disk_model.specs.Disk.{Name, Cells, Image, IsImage, reads_of}
 use Rattle.seg_reader.specs.Stands.{StandsFor, AreSegmentsOf}
 use Rattle.commit_steps.specs.declared.stage.CommitBook.{CommitBook}
 use Rattle.replica_state.specs.Given.{opening_infos}
-use Rattle.replica_state.specs.declared.parts.Parts.{Parts as ReplicaParts}
+use Rattle.replica_state.specs.declared.parts.ReplicaParts.{ReplicaParts}
 use Rattle.replica_state.specs.Replica.{IsWholeReplica, AreStanding}
 use Rattle.replica_state.specs.Sources.{IsSourced}
-use Rattle.cluster_nodes.specs.declared.nodes.Place.{Place}
+use Rattle.cluster_nodes.specs.declared.nodes.NodePlace.{NodePlace}
 use Rattle.cluster_state.specs.State.{PlaceShows}
 use Rattle.cluster_state.specs.Names.{NamesShow}
 use Rattle.cluster_state.specs.Files.{NodeFiles}
@@ -52,7 +52,7 @@ copies_at (Down d) = []
 
 -- a node that has just started: it is what the empty log shows, it has its files as at a source where nothing stands, no name stands
 -- there, and it has no commit, no job and no copy of a merged segment
-pub record OpensPlace {D : Type 0} (cells : D → Cells) (n : ℕ) (place : Place D) : Type 0 where
+pub record OpensPlace {D : Type 0} (cells : D → Cells) (n : ℕ) (place : NodePlace D) : Type 0 where
   pub shows : PlaceShows cells [] n place
   pub files : NodeFiles (λ q. None) cells [] (λ s. 0) n place.node
   pub named : NamesShow cells [] place.node

@@ -9,7 +9,7 @@ use Rattle.segment_infos.specs.declared.infos.Infos.{Infos}
 use Rattle.script_serving.specs.Refusals.{put_publishes}
 use Rattle.searcher_switch.specs.declared.searchers.Lease.{Lease}
 use Rattle.searcher_switch.specs.declared.open.Open.{Open}
-use Rattle.searcher_switch.specs.declared.open.Point.{Point}
+use Rattle.searcher_switch.specs.declared.open.SearchPoint.{SearchPoint}
 use Rattle.searcher_switch.specs.Tickets.{ticket_at}
 use Rattle.history_rules.specs.Nodes.{Past, IsNode, primary_of, is_at, is_running, generation_of, version_of, newest_version}
 use Rattle.history_rules.specs.Lines.{start_entry, before_start, publish_in_flight}
@@ -17,17 +17,17 @@ use Rattle.history_rules.specs.Points.{documents_at, operations_of_generation, c
 use Rattle.history_rules.specs.Tickets.{open_ticket, IsTicketOf}
 use Rattle.history_rules.specs.Tasks.{merge_count}
 use Rattle.history_book.specs.Log.{Log, printed}
-use Rattle.primary_state.specs.declared.parts.Parts.{Parts as PrimaryParts}
+use Rattle.primary_state.specs.declared.parts.PrimaryParts.{PrimaryParts}
 use Rattle.primary_state.specs.declared.parts.Publish.{Publish}
 use Rattle.primary_state.specs.Primary.{IsPrimary}
-use Rattle.replica_state.specs.declared.parts.Parts.{Parts as ReplicaParts}
+use Rattle.replica_state.specs.declared.parts.ReplicaParts.{ReplicaParts}
 use Rattle.replica_state.specs.Replica.{IsWholeReplica, AreStanding}
-use Rattle.cluster_nodes.specs.declared.held.Held.{Held}
-use Rattle.cluster_nodes.specs.declared.held.Key.{Key}
-use Rattle.cluster_nodes.specs.declared.held.Key.TheVariants.{Ticket, Search}
+use Rattle.cluster_nodes.specs.declared.held.HeldTicket.{HeldTicket}
+use Rattle.cluster_nodes.specs.declared.held.HeldKey.{HeldKey}
+use Rattle.cluster_nodes.specs.declared.held.HeldKey.TheVariants.{Ticket, Search}
 use Rattle.cluster_nodes.specs.declared.nodes.Node.{Node}
 use Rattle.cluster_nodes.specs.declared.nodes.Node.TheVariants.{Primary, Replica, Down}
-use Rattle.cluster_nodes.specs.declared.nodes.Place.{Place}
+use Rattle.cluster_nodes.specs.declared.nodes.NodePlace.{NodePlace}
 use Rattle.cluster_nodes.specs.Held.{same_key, held_number}
 use Rattle.cluster_state.specs.Lookups.{flush_out, IsSearching}
 use Rattle.cluster_nodes.specs.Places.{place_of, tickets_of}
@@ -38,7 +38,7 @@ pub record StandForVersion (past : Past) (v : ℕ) (segs : List Shown) : Type 0 
   pub documents : AreSegmentsOf (documents_at past v) segs
 
 -- the point that is searched has this version, and its documents
-pub record IsPointAt (past : Past) (v : ℕ) (point : Point Shown) : Type 0 where
+pub record IsPointAt (past : Past) (v : ℕ) (point : SearchPoint Shown) : Type 0 where
   pub version : point.version.0 ≡ v
   pub stands : StandForVersion past v point.readers
 
@@ -53,19 +53,19 @@ IsOpenOn past tickets number =
     IsSomeAnd (ticket_at number tickets) (λ o. StandForVersion past o.point.version.0 o.point.readers)
 
 -- a ticket is held for this, on the point of this version
-abbrev pub HoldsAt : List (Open Shown) → List Held → Key → ℕ → Type 0
+abbrev pub HoldsAt : List (Open Shown) → List HeldTicket → HeldKey → ℕ → Type 0
 HoldsAt tickets held key v =
     IsSomeAnd (held_number held key) (λ number. IsSomeAnd (ticket_at number tickets) (λ o. o.point.version.0 ≡ v))
 
 -- a lane's ticket
-abbrev pub ticket_key : ℕ → ℕ → Key
+abbrev pub ticket_key : ℕ → ℕ → HeldKey
 ticket_key lane t = Ticket (record { 0 = lane }) (record { 0 = t })
 
 -- Each ticket that is held is open at the node, and no two are one; those that lanes have at the node are held, and so is one
 -- for each search of it.
-pub record HoldsTickets (past : Past) (n : ℕ) (tickets : List (Open Shown)) (held : List Held) : Type 0 where
-  pub each : (key : Key) (number : ℕ) → held_number held key ≡ Some number → IsOpenOn past tickets number
-  pub apart : (a b : Key) (number : ℕ) → held_number held a ≡ Some number → held_number held b ≡ Some number → same_key a b ≡ true
+pub record HoldsTickets (past : Past) (n : ℕ) (tickets : List (Open Shown)) (held : List HeldTicket) : Type 0 where
+  pub each : (key : HeldKey) (number : ℕ) → held_number held key ≡ Some number → IsOpenOn past tickets number
+  pub apart : (a b : HeldKey) (number : ℕ) → held_number held a ≡ Some number → held_number held b ≡ Some number → same_key a b ≡ true
   pub opened : (lane t v : ℕ) → IsTicketOf n v (open_ticket lane t past) → HoldsAt tickets held (ticket_key lane t) v
   pub searched : (at : At) (v : ℕ) → IsSearching past at n v → HoldsAt tickets held (Search at) v
 
@@ -123,12 +123,12 @@ module _ {D : Type 0} where
   NodeShows cells log n (Down d) = DownShows (printed log) n
 
   -- a node is what the log shows, and holds the tickets that it shows
-  pub record PlaceShows (cells : D → Cells) (log : Log) (n : ℕ) (place : Place D) : Type 0 where
+  pub record PlaceShows (cells : D → Cells) (log : Log) (n : ℕ) (place : NodePlace D) : Type 0 where
     pub node_shows : NodeShows cells log n place.node
     pub tickets : HoldsTickets (printed log) n (tickets_of place.node) place.held.items
 
   -- a cluster that has not ended: it has a node, each is in its place and is what the log shows, and only lines that started have work out
-  pub record Shows (cells : D → Cells) (log : Log) (size : ℕ) (places : List (Option (Place D))) : Type 0 where
+  pub record Shows (cells : D → Cells) (log : Log) (size : ℕ) (places : List (Option (NodePlace D))) : Type 0 where
     pub some : 1 ≤ size
     pub count : length places ≡ size
     pub each : (n : ℕ) → IsNode size n → IsSomeAnd (place_of places n) (PlaceShows cells log n)

@@ -1,6 +1,6 @@
 //! The cluster.
 
-use cluster_nodes::Place;
+use cluster_nodes::NodePlace;
 use disk_model::FaultDir;
 use history_book::Book;
 use history_rules::Event;
@@ -13,7 +13,7 @@ use std::marker::Model;
 pub struct ClusterState<D: FaultDir> {
     pub ledger: Ledger,
     pub tasks: Tasks,
-    pub places: Vec<Option<Place<D>>>,
+    pub places: Vec<Option<NodePlace<D>>>,
     pub ended: bool,
 }
 
@@ -141,7 +141,7 @@ impl<D: FaultDir + Drop> ClusterState<D> {
     }
 
     /// Appends an entry that moves no node, starts no copy and no commit, opens no ticket and is no drain's reply, of a line whose publish
-    /// or commit is not in flight. `Err` is want of memory: the cluster has ended, and the history is as before.
+    /// or commit is not in flight. It fails when out of memory: the cluster has ended, and the history is as before.
     pub fn note(&mut self, at: At, event: Event) -> Result<(), NoMemory>
         requires running { self.old.ended ≡ false }
         requires rule { KeepsRule self.old.nodes (printed self.old.log) at event }

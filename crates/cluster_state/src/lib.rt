@@ -11,7 +11,7 @@ mod turn;
 
 pub use cluster::ClusterState;
 pub use cluster_nodes::{
-    CommitTask, CopyTask, FileTask, Node, Place, Replica, SettleTask, files_last,
+    CommitTask, CopyTask, FileTask, Node, NodePlace, Replica, SettleTask, files_last,
 };
 pub use laws::are_bytes;
 pub use met::{are_planned, has_risen, kinds_in, show_met};

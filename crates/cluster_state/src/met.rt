@@ -7,7 +7,7 @@ ghost use Rattle.history_rules.specs.Faults.{is_of_disk};
 ghost use Rattle.history_book.specs.Log.{Log, printed};
 ghost use Rattle.cluster_state.specs.Met.{met_in, with_met, fault_if, IsPlannedIf, ArePlanned, has_risen as has_risen_at, ClusterStands};
 
-use cluster_nodes::{Node, Place};
+use cluster_nodes::{Node, NodePlace};
 use disk_model::FaultDir;
 use history_book::Book;
 use history_rules::{Event, FaultKind};
@@ -16,7 +16,7 @@ use nrt_base::{At, NoMemory, NodeNo};
 use std::alloc::Global;
 
 // How often the disk of the node in a place has failed by a plan of one call, and how often by a stop.
-fn kinds_at<D: FaultDir + Drop>(place: &Option<Place<D>>) -> (u64, u64)
+fn kinds_at<D: FaultDir + Drop>(place: &Option<NodePlace<D>>) -> (u64, u64)
     ensures { result ≡ met_in D.planned place.now }
 {
     match place {
@@ -34,7 +34,7 @@ fn kinds_at<D: FaultDir + Drop>(place: &Option<Place<D>>) -> (u64, u64)
 /// How often the disk of each node has failed so, in order.
 pub fn kinds_in<D: FaultDir + Drop>(
     alloc: Global,
-    places: &[Option<Place<D>>],
+    places: &[Option<NodePlace<D>>],
 ) -> Result<Vec<(u64, u64)>, NoMemory>
     ensures { IfOk result (λ kinds. kinds.items ≡ map (met_in D.planned) places.now) }
 {
@@ -87,7 +87,7 @@ fn show_node(ledger: &mut Ledger, at: At, n: NodeNo, before: (u64, u64), now: (u
 pub fn are_planned<D: FaultDir + Drop>(
     book: &Book,
     before: &[(u64, u64)],
-    places: &Vec<Option<Place<D>>>,
+    places: &Vec<Option<NodePlace<D>>>,
 ) -> bool
     requires count { length before.now ≡ book.now.nodes }
     requires places { length places.now.items ≡ book.now.nodes }
@@ -117,7 +117,7 @@ pub fn are_planned<D: FaultDir + Drop>(
 pub fn has_risen<D: FaultDir + Drop>(
     p: NodeNo,
     before: &[(u64, u64)],
-    places: &Vec<Option<Place<D>>>,
+    places: &Vec<Option<NodePlace<D>>>,
 ) -> bool
     requires count { length places.now.items ≡ length before.now }
     ensures { result ≡ has_risen_at p.0 1 before.now (map (met_in D.planned) places.now.items) }
@@ -137,7 +137,7 @@ pub fn show_met<D: FaultDir + Drop>(
     ledger: &mut Ledger,
     at: At,
     before: &[(u64, u64)],
-    places: &Vec<Option<Place<D>>>,
+    places: &Vec<Option<NodePlace<D>>>,
 )
     requires room { 2 * length before.now ≤ ledger.old.room }
     requires count { length before.now ≡ ledger.old.nodes }
@@ -167,7 +167,7 @@ pub fn show_met<D: FaultDir + Drop>(
 pub fn stands_behind<D: FaultDir + Drop>(
     ledger: &Ledger,
     tasks: &Tasks,
-    places: &Vec<Option<Place<D>>>,
+    places: &Vec<Option<NodePlace<D>>>,
     at: At,
     before: &[(u64, u64)],
 )

@@ -12,6 +12,3 @@ pub use checking::check;
 pub use crc::crc32;
 pub use frame::{FOOTER_LENGTH, FOOTER_MAGIC, FileFault, FrameFault, Framed, HEADER_MAGIC, Want};
 pub use writing::{write_footer, write_header, write_index_header};
-
-#[cfg(test)]
-mod tests;

@@ -16,6 +16,3 @@ pub use stage::{CommitBook, Progress, Stage};
 pub use states::{
     Begun, Commit, CommitFault, Done, Flight, Named, Pending, Renamed, Stopped, Synced, Written,
 };
-
-#[cfg(test)]
-mod tests;

@@ -10,6 +10,3 @@ mod state;
 mod table;
 
 pub use memory::MemDir;
-
-#[cfg(test)]
-mod tests;

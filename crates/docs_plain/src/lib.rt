@@ -8,6 +8,3 @@ mod row;
 
 pub use encoding::encode;
 pub use file::{DocsFile, read_docs};
-
-#[cfg(test)]
-mod tests;

@@ -7,8 +7,6 @@ mod matching;
 pub mod operation;
 pub mod query;
 mod ranking;
-#[cfg(test)]
-mod tests;
 mod text_words;
 
 pub use answer::{Answer, Hit};

@@ -14,7 +14,7 @@ use Rattle.history_rules.specs.Commits.{starts_commit}
 use Rattle.history_rules.specs.Legal.{KeepsRule, IsLegalPast}
 use Rattle.history_tables.specs.declared.numbers.Numbers.{Numbers}
 use Rattle.history_tables.specs.declared.rows.NodeRow.{NodeRow}
-use Rattle.history_tables.specs.declared.lines.Begun.{Begun}
+use Rattle.history_tables.specs.declared.lines.BegunLine.{BegunLine}
 use Rattle.history_tables.specs.declared.lines.LineRow.{LineRow}
 use Rattle.history_tables.specs.Begins.{event_of, open_line, begun_under, begun_by}
 use Rattle.history_tables.specs.Numbering.{NumbersTell, IsFound}
@@ -54,7 +54,7 @@ row_told past rows n row tells low got = subst (λ (k : ℕ). NodeTells past k r
 pub rows_low : (past : Past) (rows : List NodeRow) (size : ℕ) → RowsTell past rows → length past ≡ size → AreRowsLow size rows
 rows_low past rows size tells count i row got = let low = (tells i row got).low in omega (arith, low, count)
 
-pub found_some : (size : ℕ) (past : Past) (at : At) (begun : Begun) → IsLegalPast size past → AreInTurn past → publish_in_flight past ≡ Some at
+pub found_some : (size : ℕ) (past : Past) (at : At) (begun : BegunLine) → IsLegalPast size past → AreInTurn past → publish_in_flight past ≡ Some at
     → open_line at past ≡ Some begun → begun.accepted ≡ accepted_at_start at past
 found_some size past at begun legal turns is line = let f = (flying size past at legal turns is).open_is in cc
 
@@ -62,7 +62,7 @@ pub found_none : (size : ℕ) (past : Past) (at : At) → IsLegalPast size past 
 found_none size past at legal turns is line = let f = (flying size past at legal turns is).open_is in absurd (cc)
 
 -- the node whose commit an open line started as
-pub committer_some : (at : At) (past : Past) (begun : Begun) (who : Option NodeNo) → open_line at past ≡ Some begun
+pub committer_some : (at : At) (past : Past) (begun : BegunLine) (who : Option NodeNo) → open_line at past ≡ Some begun
     → ((k : ℕ) → starts_commit k (Some (event_of begun.start)) ≡ is_at who k) → (k : ℕ) → starts_commit k (start_entry at past) ≡ is_at who k
 committer_some at past begun who line is k = ap (starts_commit k) (open_started at past begun line).entry ∙ is k
 

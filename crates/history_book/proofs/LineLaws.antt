@@ -13,7 +13,7 @@ use Rattle.history_rules.specs.Nodes.{Past, IsNode, is_at, primary_of, primary_b
 use Rattle.history_rules.specs.Lines.{same_at, is_start, start_entry, before_start, without_at, publish_in_flight}
 use Rattle.history_rules.specs.Points.{accepted_at_start, operations_of_generation, published_in_generation}
 use Rattle.history_rules.specs.Legal.{KeepsRule, IsLegalPast}
-use Rattle.history_tables.specs.declared.lines.Begun.{Begun}
+use Rattle.history_tables.specs.declared.lines.BegunLine.{BegunLine}
 use Rattle.history_tables.specs.declared.lines.Start.TheVariants.{Publishing as PublishStart, Searching as SearchStart}
 use Rattle.history_tables.specs.Begins.{begin, begun_by, open_line}
 use Rattle.history_rules.specs.Steps.{newest_by}
@@ -22,47 +22,47 @@ use Rattle.history_book.specs.Turns.{StartsOnce, InTurn, AreInTurn}
 use Rattle.history_book.specs.Laws.{Started, Flying}
 use Rattle.history_tables.proofs.RowLemmas.{by_test, same_at_self, same_at_is}
 
-begun_started : (past : Past) (entry : Option Event) (start : Past) (b : Begun) (e : Event) (old : Option Begun)
+begun_started : (past : Past) (entry : Option Event) (start : Past) (b : BegunLine) (e : Event) (old : Option BegunLine)
     → begun_by e (length past) (length (operations_of_generation past)) old ≡ Some b
     → (old ≡ Some b → Started entry start b)
     → Started (if is_start e then Some e else entry) (if is_start e then past else start) b
 begun_started past entry start b (Switched n v) old is was = was is
 begun_started past entry start b (Fault n k) old is was = was is
-begun_started past entry start b Publishing old is was = subst (λ (x : Begun). Started (Some Publishing) past x) (some_is _ _ is) (record { entry = refl; before = refl; accepted = refl })
+begun_started past entry start b Publishing old is was = subst (λ (x : BegunLine). Started (Some Publishing) past x) (some_is _ _ is) (record { entry = refl; before = refl; accepted = refl })
   where
-    some_is : (x y : Begun) → Some x ≡ Some y → x ≡ y
+    some_is : (x y : BegunLine) → Some x ≡ Some y → x ≡ y
     some_is x y e = cc
-begun_started past entry start b (Copying n v) old is was = subst (λ (x : Begun). Started (Some (Copying n v)) past x) (some_is _ _ is) (record { entry = refl; before = refl; accepted = refl })
+begun_started past entry start b (Copying n v) old is was = subst (λ (x : BegunLine). Started (Some (Copying n v)) past x) (some_is _ _ is) (record { entry = refl; before = refl; accepted = refl })
   where
-    some_is : (x y : Begun) → Some x ≡ Some y → x ≡ y
+    some_is : (x y : BegunLine) → Some x ≡ Some y → x ≡ y
     some_is x y e = cc
-begun_started past entry start b (Settling v) old is was = subst (λ (x : Begun). Started (Some (Settling v)) past x) (some_is _ _ is) (record { entry = refl; before = refl; accepted = refl })
+begun_started past entry start b (Settling v) old is was = subst (λ (x : BegunLine). Started (Some (Settling v)) past x) (some_is _ _ is) (record { entry = refl; before = refl; accepted = refl })
   where
-    some_is : (x y : Begun) → Some x ≡ Some y → x ≡ y
+    some_is : (x y : BegunLine) → Some x ≡ Some y → x ≡ y
     some_is x y e = cc
-begun_started past entry start b (Asking n t v) old is was = subst (λ (x : Begun). Started (Some (Asking n t v)) past x) (some_is _ _ is) (record { entry = refl; before = refl; accepted = refl })
+begun_started past entry start b (Asking n t v) old is was = subst (λ (x : BegunLine). Started (Some (Asking n t v)) past x) (some_is _ _ is) (record { entry = refl; before = refl; accepted = refl })
   where
-    some_is : (x y : Begun) → Some x ≡ Some y → x ≡ y
+    some_is : (x y : BegunLine) → Some x ≡ Some y → x ≡ y
     some_is x y e = cc
-begun_started past entry start b (Committing n v) old is was = subst (λ (x : Begun). Started (Some (Committing n v)) past x) (some_is _ _ is) (record { entry = refl; before = refl; accepted = refl })
+begun_started past entry start b (Committing n v) old is was = subst (λ (x : BegunLine). Started (Some (Committing n v)) past x) (some_is _ _ is) (record { entry = refl; before = refl; accepted = refl })
   where
-    some_is : (x y : Begun) → Some x ≡ Some y → x ≡ y
+    some_is : (x y : BegunLine) → Some x ≡ Some y → x ≡ y
     some_is x y e = cc
 begun_started past entry start b (Opened n t v) old is was = opens (t.0 == 0) refl is
   where
-    some_is : (x y : Begun) → Some x ≡ Some y → x ≡ y
+    some_is : (x y : BegunLine) → Some x ≡ Some y → x ≡ y
     some_is x y e = cc
 
     opens : (s : Bool) → (t.0 == 0) ≡ s → begin (if s then Some (SearchStart n v) else None) (length past) (length (operations_of_generation past)) ≡ Some b
         → Started (if s then Some (Opened n t v) else entry) (if s then past else start) b
     opens true z got =
         let zero : t.0 ≡ 0 = eqb-true t.0 0 z in
-        subst (λ (x : Begun). Started (Some (Opened n t v)) past x) (some_is _ _ got)
+        subst (λ (x : BegunLine). Started (Some (Opened n t v)) past x) (some_is _ _ got)
         (record { entry = λ i. Some (Opened n (record { 0 = zero i }) v); before = refl; accepted = refl })
     opens false z got = absurd (cc)
 begun_started past entry start b e old is was = absurd (cc)
 
-started_step : (at : At) (past : Past) (e : Entry) (b : Begun) (s : Bool) → (open_line at past ≡ Some b → Started (start_entry at past) (before_start at past) b)
+started_step : (at : At) (past : Past) (e : Entry) (b : BegunLine) (s : Bool) → (open_line at past ≡ Some b → Started (start_entry at past) (before_start at past) b)
     → (if s then begun_by e.event (length past) (length (operations_of_generation past)) (open_line at past) else open_line at past) ≡ Some b
     → Started (if is_start e.event && s then Some e.event else start_entry at past) (if is_start e.event && s then past else before_start at past) b
 started_step at past e b true was got =
@@ -73,7 +73,7 @@ started_step at past e b false was got =
     (was got)
 
 -- what is remembered of a line is how it started
-pub open_started : (at : At) (past : Past) (b : Begun) → open_line at past ≡ Some b → Started (start_entry at past) (before_start at past) b
+pub open_started : (at : At) (past : Past) (b : BegunLine) → open_line at past ≡ Some b → Started (start_entry at past) (before_start at past) b
 open_started at [] b is = absurd (cc)
 open_started at (e ∷ past) b is = started_step at past e b (same_at e.at at) (open_started at past b) is
 
@@ -81,7 +81,7 @@ open_started at (e ∷ past) b is = started_step at past e b (same_at e.at at) (
 pub open_none : (at : At) (past : Past) → start_entry at past ≡ None → open_line at past ≡ None
 open_none at past none = tells (open_line at past) refl
   where
-    tells : (o : Option Begun) → open_line at past ≡ o → o ≡ None
+    tells : (o : Option BegunLine) → open_line at past ≡ o → o ≡ None
     tells None is = refl
     tells (Some b) is = let s = (open_started at past b is).entry in absurd (cc)
 

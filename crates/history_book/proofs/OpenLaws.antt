@@ -15,14 +15,14 @@ use Rattle.history_rules.specs.Steps.{crashes_by, commit_by}
 use Rattle.history_book.specs.Steps.{primary_crashes_by, publish_by, last_by, highest_by}
 use Rattle.history_rules.specs.Legal.{KeepsRule, IsLegalPast}
 use Rattle.history_tables.specs.Begins.{begun_by, open_line}
-use Rattle.history_tables.specs.declared.lines.Begun.{Begun}
+use Rattle.history_tables.specs.declared.lines.BegunLine.{BegunLine}
 use Rattle.history_book.specs.Laws.{LastStarted}
 use Rattle.history_tables.proofs.RowLemmas.{by_test, same_at_is}
 use Rattle.history_rules.proofs.NodeLemmas.{crashes_rise}
 use Rattle.history_book.proofs.ReignLaws.{node_crashes_rise, source_crashes_rise, primary_crashes_rise}
 
 -- an event that starts a line is remembered
-start_open : (e : Event) (before accepted : ℕ) (old : Option Begun) → is_start e ≡ true → begun_by e before accepted old ≢ None
+start_open : (e : Event) (before accepted : ℕ) (old : Option BegunLine) → is_start e ≡ true → begun_by e before accepted old ≢ None
 start_open Publishing before accepted old is = λ none. absurd (cc)
 start_open (Copying n v) before accepted old is = λ none. absurd (cc)
 start_open (Settling v) before accepted old is = λ none. absurd (cc)

@@ -13,12 +13,12 @@ use Rattle.history_rules.specs.Faults.{has_met_fault}
 use Rattle.history_rules.specs.Commits.{is_stuck, reopenable_versions}
 use Rattle.history_rules.specs.Points.{accepted_at_start, published_in_generation, operations_of_generation, operations_at, operations_at_start, operations_written, cut_of}
 use Rattle.history_facts.specs.Origins.{operations_before_generation}
-use Rattle.history_tables.specs.declared.lines.Begun.{Begun}
+use Rattle.history_tables.specs.declared.lines.BegunLine.{BegunLine}
 use Rattle.history_tables.specs.declared.lines.Start.TheVariants.{Publishing as PublishStart}
 use Rattle.history_tables.specs.Begins.{event_of, open_line}
 
 -- the entry by which a line started, and the entries before it, are those remembered
-pub record Started (begin : Option Event) (start : Past) (b : Begun) : Type 0 where
+pub record Started (begin : Option Event) (start : Past) (b : BegunLine) : Type 0 where
   pub entry : begin ≡ Some (event_of b.start)
   pub before : b.before ≡ length start
   pub accepted : b.accepted ≡ length (operations_of_generation start)
@@ -50,7 +50,7 @@ pub record Written (past : Past) : Type 0 where
   pub written : operations_written past ≡ operations_at past (newest_version past) ++ cut_of past
 
 -- a line whose newest entry but faults is its start
-pub record LastStarted (begin : Option Event) (switched : Bool) (line : Option Begun) (e : Event) : Type 0 where
+pub record LastStarted (begin : Option Event) (switched : Bool) (line : Option BegunLine) (e : Event) : Type 0 where
   pub entry : begin ≡ Some e
   pub unswitched : switched ≡ false
   pub is_open : line ≢ None

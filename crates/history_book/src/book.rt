@@ -9,7 +9,7 @@ ghost use Rattle.history_tables.specs.Begins.{event_of};
 use crate::inner::{Inner, Stop, job_step, stop_for};
 use history_rules::{Entry, Event, FaultKind, History};
 use history_tables::{
-    Begun, Job, JobRow, JobTable, Lines, NodeRow, Numbers, Opening, Plans, Start, Tickets,
+    BegunLine, Job, JobRow, JobTable, Lines, NodeRow, Numbers, Opening, Plans, Start, Tickets,
     first_rows, step_rows,
 };
 use nrt_base::{At, LaneNo, List, NodeNo, TicketNo, Version};
@@ -528,7 +528,7 @@ impl Book {
     }
 
     /// What is remembered of a line that has started and has no reply.
-    pub fn line(&self, at: At) -> Option<Begun>
+    pub fn line(&self, at: At) -> Option<BegunLine>
         ensures { result ≡ open_line at (printed self.now.log) }
     {
         self.lines.get(at)

@@ -12,7 +12,7 @@ use Rattle.history_rules.specs.declared.cause.Cause.{Cause}
 use Rattle.history_rules.specs.declared.entry.Event.TheVariants.{Refused}
 use Rattle.history_rules.specs.Nodes.{Past}
 use Rattle.history_rules.specs.Lines.{same_at}
-use Rattle.history_tables.specs.declared.lines.Begun.{Begun}
+use Rattle.history_tables.specs.declared.lines.BegunLine.{BegunLine}
 use Rattle.history_tables.specs.declared.lines.LineRow.{LineRow}
 use Rattle.history_tables.specs.Begins.{begun_under, open_line}
 use Rattle.history_tables.specs.Openings.{TicketRow, ticket_of, is_ticket_key, opened_of}
@@ -52,7 +52,7 @@ row_end (q ∷ rows) r b fresh = ends (same_at q.at r.at) refl fresh (row_end ro
     ends true is none more = absurd (cc)
     ends false is none more = let rest = more none in grind (arith, nat_tests, rest, is)
 
-pub row_last : (old new : List LineRow) (at : At) (begun : Begun) (b : At) → new ≡ old ++ (record { at = at; begun = begun }) ∷ [] → begun_under old at ≡ None
+pub row_last : (old new : List LineRow) (at : At) (begun : BegunLine) (b : At) → new ≡ old ++ (record { at = at; begun = begun }) ∷ [] → begun_under old at ≡ None
     → begun_under new b ≡ (if same_at at b then Some begun else begun_under old b)
 row_last old new at begun b e fresh = ap (λ rows. begun_under rows b) e ∙ row_end old (record { at = at; begun = begun }) b fresh
 

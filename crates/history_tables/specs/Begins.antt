@@ -8,7 +8,7 @@ use Rattle.history_rules.specs.Lines.{same_at}
 use Rattle.history_rules.specs.Points.{operations_of_generation}
 use Rattle.history_tables.specs.declared.lines.Start.{Start}
 use Rattle.history_tables.specs.declared.lines.Start.TheVariants.{Publishing as PublishStart, Copying as CopyStart, Settling as SettleStart, Searching as SearchStart, Asking as AskStart, Committing as CommitStart}
-use Rattle.history_tables.specs.declared.lines.Begun.{Begun}
+use Rattle.history_tables.specs.declared.lines.BegunLine.{BegunLine}
 use Rattle.history_tables.specs.declared.lines.LineRow.{LineRow}
 
 -- how an event starts its line
@@ -31,19 +31,19 @@ event_of (AskStart n t v) = Asking n t v
 event_of (CommitStart n v) = Committing n v
 
 -- what is remembered of a line that starts so, where it starts
-abbrev pub begin : Option Start → ℕ → ℕ → Option Begun
+abbrev pub begin : Option Start → ℕ → ℕ → Option BegunLine
 begin None before accepted = None
 begin (Some start) before accepted =
     Some (record { start = start; before = before; accepted = accepted })
 
 -- what is remembered of a line after one more event of it
-abbrev pub begun_by : Event → ℕ → ℕ → Option Begun → Option Begun
+abbrev pub begun_by : Event → ℕ → ℕ → Option BegunLine → Option BegunLine
 begun_by (Switched n v) before accepted old = old
 begun_by (Fault n kind) before accepted old = old
 begun_by e before accepted old = begin (start_by e) before accepted
 
 -- how a line has started that has no reply yet
-abbrev pub open_line : At → Past → Option Begun
+abbrev pub open_line : At → Past → Option BegunLine
 open_line at = over None (λ e past old. if same_at e.at at then
     begun_by e.event (length past) (length (operations_of_generation past)) old else old)
 
@@ -53,6 +53,6 @@ pub record LineRows : Type 0 where
   pub room : ℕ
 
 -- what the rows say of a line
-abbrev pub begun_under : List LineRow → At → Option Begun
+abbrev pub begun_under : List LineRow → At → Option BegunLine
 begun_under [] at = None
 begun_under (row ∷ rows) at = if same_at row.at at then Some row.begun else begun_under rows at

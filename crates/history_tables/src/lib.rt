@@ -12,7 +12,7 @@ pub mod work;
 
 pub use history_facts::same_at;
 pub use jobs::{Job, JobRow, JobStep, JobTable};
-pub use lines::{Begun, Lines, Start};
+pub use lines::{BegunLine, Lines, Start};
 pub use numbers::Numbers;
 pub use plans::Plans;
 pub use rows::{NodeRow, first_rows, step_rows};

@@ -24,7 +24,7 @@ pub enum Start {
 
 /// What is remembered of a line that has started.
 #[derive(Clone, Copy, Debug, PartialEq, Eq)]
-pub struct Begun {
+pub struct BegunLine {
     pub start: Start,
     /// How many entries stood before its start.
     pub before: usize,
@@ -36,7 +36,7 @@ pub struct Begun {
 #[derive(Clone, Copy, Debug, PartialEq, Eq)]
 pub struct LineRow {
     pub at: At,
-    pub begun: Begun,
+    pub begun: BegunLine,
 }
 
 /// Lines that have started and have no reply.
@@ -110,7 +110,7 @@ impl Lines {
     }
 
     /// What is remembered of a line.
-    pub fn get(&self, at: At) -> Option<Begun>
+    pub fn get(&self, at: At) -> Option<BegunLine>
         ensures { result ≡ begun_under self.now.rows at }
     {
         for row in self.rows.as_slice() {
@@ -140,7 +140,7 @@ impl Lines {
 
     /// Remembers a line of which nothing is remembered.
     #[tactic(auto, using(crate::proofs::RowLemmas::row_last))]
-    fn remember(&mut self, at: At, begun: Begun)
+    fn remember(&mut self, at: At, begun: BegunLine)
         requires room { 1 ≤ self.old.room }
         requires fresh { begun_under self.old.rows at ≡ None }
         ensures { (b : At) → begun_under self.new.rows b
@@ -162,7 +162,7 @@ impl Lines {
             event => match start_of(event) {
                 Some(start) => self.remember(
                     at,
-                    Begun {
+                    BegunLine {
                         start,
                         before,
                         accepted,

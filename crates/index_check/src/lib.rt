@@ -20,8 +20,3 @@ pub use commit::read_commit;
 pub use fault::CheckFault;
 pub use reading::{ImageFault, read_image};
 pub use writing::write_image;
-
-#[cfg(test)]
-mod check_tests;
-#[cfg(test)]
-mod image_tests;

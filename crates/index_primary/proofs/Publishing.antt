@@ -16,7 +16,7 @@ use Rattle.file_deleter.specs.Holdings.{Holdings, count_of, times, AreThere, Are
 use Rattle.file_deleter.specs.Moves.{KeepsFiles, HoldsFiles, LetsGo}
 use Rattle.file_deleter.proofs.NameLemmas.{times-append, among_times, not_among_times}
 use Rattle.commit_steps.proofs.Safe.{among_of, contains_of}
-use Rattle.searcher_switch.specs.declared.open.Point.{Point}
+use Rattle.searcher_switch.specs.declared.open.SearchPoint.{SearchPoint}
 use Rattle.searcher_switch.specs.declared.open.Open.{Open}
 use Rattle.searcher_switch.specs.declared.searchers.Searchers.{Searchers}
 use Rattle.searcher_switch.specs.Tickets.{ticket_names}
@@ -24,7 +24,7 @@ use Rattle.searcher_switch.specs.Searching.{searcher_names}
 use Rattle.searcher_switch.specs.Node.{IsWholeNode, IsApart, HasNoPending}
 use Rattle.searcher_switch.proofs.Carry.{node_gathers, node_lets_go, node_same_names, node_same_counts, node_there, nothing_written, unheld_apart, front_counted}
 use Rattle.searcher_switch.proofs.Standing.{segments_along, standing_kept}
-use Rattle.primary_state.specs.declared.parts.Parts.{Parts}
+use Rattle.primary_state.specs.declared.parts.PrimaryParts.{PrimaryParts}
 use Rattle.primary_state.specs.declared.parts.Publish.{Publish}
 use Rattle.index_primary.specs.declared.ready.Ready.{Ready}
 use Rattle.searcher_switch.specs.Appearing.{AppearsOnly}
@@ -50,7 +50,7 @@ merging_step held infos segs loose still filled records fresh files step reads (
   merging_step held infos segs loose still filled records fresh files step reads ms within.1 all.1,
 )
 
-module _ {D : Type 0} (cells : D → Cells) (p : Parts D) (r : Ready) (is : IsPrimary cells p) (ready : IsReady p r) where
+module _ {D : Type 0} (cells : D → Cells) (p : PrimaryParts D) (r : Ready) (is : IsPrimary cells p) (ready : IsReady p r) where
   -- ---- the names that are written
   pub fresh : (q : Name) → is_among r.written q ≡ true → count_of p.files q ≡ 0
   fresh q there = is.undrawn.each q (ready.step.undrawn q (ap (λ (ns : List Name). is_among ns q) (sym ready.written) ∙ there))
@@ -156,13 +156,13 @@ module _ {D : Type 0} (cells : D → Cells) (p : Parts D) (r : Ready) (is : IsPr
       (node_same_counts (cells p.dir) (cells dir) p.files files (primary_names p) r.written p.commits is.node apart keeps same) keeps.reads same
 
 -- what was written is the writer's own
-pub written_appears : {D : Type 0} (cells : D → Cells) (p : Parts D) (r : Ready) → IsReady p r → (dir : D) (files : Holdings) → KeepsFiles r.written p.files files (cells p.dir) (cells dir)
+pub written_appears : {D : Type 0} (cells : D → Cells) (p : PrimaryParts D) (r : Ready) → IsReady p r → (dir : D) (files : Holdings) → KeepsFiles r.written p.files files (cells p.dir) (cells dir)
     → AppearsOnly (IsOwnFile p.infos (loose_of p)) (cells p.dir) (cells dir)
 written_appears cells p r ready dir files keeps = keeps_only (IsOwnFile p.infos (loose_of p)) r.written p.files files (cells p.dir) (cells dir) keeps
     (λ q there none. ready.step.own q (ap (λ (ns : List Name). is_among ns q) (sym ready.written) ∙ there))
 
 -- ---- the new point is put in place
-module _ {D : Type 0} (cells : D → Cells) (p : Parts D) (r : Ready) (h : HasWritten cells p r) (searchers : Searchers Shown)
+module _ {D : Type 0} (cells : D → Cells) (p : PrimaryParts D) (r : Ready) (h : HasWritten cells p r) (searchers : Searchers Shown)
     (point : searchers.point ≡ record { version = r.infos.version; names = r.point_names; readers = r.readers }) (tickets : searchers.tickets ≡ p.searchers.tickets) where
   -- the names that the new primary's parts name
   abbrev new_names : List Name
@@ -176,7 +176,7 @@ module _ {D : Type 0} (cells : D → Cells) (p : Parts D) (r : Ready) (h : HasWr
       let n : times (r.names ++ rest_names p) q ≡ times r.names q + times (rest_names p) q = times-append r.names (rest_names p) q in
       let o : times (p.names ++ rest_names p) q ≡ times p.names q + times (rest_names p) q = times-append p.names (rest_names p) q in
       let c : times (searcher_names searchers) q ≡ times searchers.point.names q + times (ticket_names searchers.tickets) q = times-append searchers.point.names (ticket_names searchers.tickets) q in
-      let d : times searchers.point.names q ≡ times r.names q = ap (λ (x : Point Shown). times x.names q) point ∙ ap (λ (ns : List Name). times ns q) ready.point_names in
+      let d : times searchers.point.names q ≡ times r.names q = ap (λ (x : SearchPoint Shown). times x.names q) point ∙ ap (λ (ns : List Name). times ns q) ready.point_names in
       let e : times (ticket_names searchers.tickets) q ≡ times (ticket_names p.searchers.tickets) q = ap (λ (ts : List (Open Shown)). times (ticket_names ts) q) tickets in
       let f : times r.gone q ≡ times (p.searchers.point.names ++ p.names) q + times r.written q = ap (λ (ns : List Name). times ns q) ready.gone ∙ times-append (p.searchers.point.names ++ p.names) r.written q in
       let g : times (p.searchers.point.names ++ p.names) q ≡ times p.searchers.point.names q + times p.names q = times-append p.searchers.point.names p.names q in
@@ -216,7 +216,7 @@ module _ {D : Type 0} (cells : D → Cells) (p : Parts D) (r : Ready) (h : HasWr
     }
 
     searched_end : IsHeld (reads_of (cells dir)) r.point_infos searchers.point.readers searchers.point.names
-    searched_end = subst (λ (x : Point Shown). IsHeld (reads_of (cells dir)) r.point_infos x.readers x.names) (sym point)
+    searched_end = subst (λ (x : SearchPoint Shown). IsHeld (reads_of (cells dir)) r.point_infos x.readers x.names) (sym point)
         (subst (λ (i : Infos). IsHeld (reads_of (cells dir)) i r.readers r.point_names) (sym h.ready.point_infos)
         (subst (λ (ss : List Shown). IsHeld (reads_of (cells dir)) r.infos ss r.point_names) (sym h.ready.readers)
         (subst (λ (ns : List Name). IsHeld (reads_of (cells dir)) r.infos r.segs ns) (sym h.ready.point_names) writer_end)))
@@ -229,7 +229,7 @@ module _ {D : Type 0} (cells : D → Cells) (p : Parts D) (r : Ready) (h : HasWr
           standing = standing_kept (cells p.dir) (cells dir) p.files p.commits h.node.sound (λ q there. reads_end q (book_counted (cells dir) files new_names p.commits node_end q there)) h.standing;
           writer = writer_end;
           searched = searched_end;
-          version = ap (λ (i : Infos). i.version) h.ready.point_infos ∙ sym (ap (λ (x : Point Shown). x.version) point);
+          version = ap (λ (i : Infos). i.version) h.ready.point_infos ∙ sym (ap (λ (x : SearchPoint Shown). x.version) point);
           versions = sym (ap (λ (i : Infos). i.version) h.ready.point_infos);
           undrawn = record { each = λ q undrawn. omega (arith, h.undrawn.each q undrawn, lets.counts q) };
           numbered = subst (λ (i : Infos). AreNumbered i (rest_loose p)) (sym h.ready.infos) h.ready.step.numbered;

@@ -3,14 +3,14 @@ use Rattle.std.proofs.Common.{◌≡◌, ◌<◌, ◌≤◌, ◌+◌, ℕ, ◌�
 use Rattle.std.specs.List.{Contains}
 use Rattle.std.proofs.lemmas.List.Elements.{Contains-append_right}
 use Rattle.disk_model.specs.Disk.{Cells, reads_of}
-use Rattle.primary_state.specs.declared.parts.Parts.{Parts}
+use Rattle.primary_state.specs.declared.parts.PrimaryParts.{PrimaryParts}
 use Rattle.primary_state.specs.declared.parts.Publish.{Publish}
 use Rattle.primary_state.specs.Held.{drawn_to, IsUndrawn, AreNumbered}
 use Rattle.primary_state.proofs.NewFiles.{undrawn_of, behind_loose}
 use Rattle.primary_state.proofs.Drawing.{counted_on, counted_held, drawn_now, numbered_on, drawn_alone}
 use Rattle.primary_state.specs.Primary.{publish_loose, rest_loose, loose_of, filled_of, IsPrimary}
 
-pub primary_idle : {D : Type 0} (cells : D → Cells) (p : Parts D) → IsPrimary cells p → IsPrimary cells (record p { publish = None })
+pub primary_idle : {D : Type 0} (cells : D → Cells) (p : PrimaryParts D) → IsPrimary cells p → IsPrimary cells (record p { publish = None })
 primary_idle cells p is = record {
   node = is.node;
   standing = is.standing;
@@ -34,7 +34,7 @@ primary_idle cells p is = record {
   merges_apart = is.merges_apart;
 }
 
-pub primary_starts : {D : Type 0} (cells : D → Cells) (p : Parts D) (count : ℕ) → IsPrimary cells p → p.publish ≡ None → count ≤ length p.waiting → p.infos.counter < 1679616 → length p.segs < 256
+pub primary_starts : {D : Type 0} (cells : D → Cells) (p : PrimaryParts D) (count : ℕ) → IsPrimary cells p → p.publish ≡ None → count ≤ length p.waiting → p.infos.counter < 1679616 → length p.segs < 256
     → IsPrimary cells (record p { infos = counted_on p.infos; publish = Some (record { seg = Some (record { 0 = drawn_to p.infos }); count = count }) })
 primary_starts cells p count is none within more few = record {
   node = is.node;

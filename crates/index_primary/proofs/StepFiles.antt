@@ -13,7 +13,7 @@ use Rattle.file_deleter.proofs.NameLemmas.{times-append}
 use Rattle.commit_steps.specs.Book.{book_names}
 use Rattle.searcher_switch.specs.Tickets.{ticket_names}
 use Rattle.searcher_switch.specs.Searching.{searcher_names}
-use Rattle.primary_state.specs.declared.parts.Parts.{Parts}
+use Rattle.primary_state.specs.declared.parts.PrimaryParts.{PrimaryParts}
 use Rattle.primary_state.specs.declared.parts.Publish.{Publish}
 use Rattle.primary_state.specs.Held.{IsUndrawn, drawn_to, next_infos}
 use Rattle.primary_state.specs.States.{state_names}
@@ -26,7 +26,7 @@ use Rattle.primary_state.proofs.Keeping.{states_split, writer_counted}
 use Rattle.primary_state.proofs.NewFiles.{undrawn_of, named_of}
 use Rattle.primary_state.proofs.Drawing.{counted_on, drawn_now}
 
-module _ {D : Type 0} (cells : D → Cells) (p n : Parts D) where
+module _ {D : Type 0} (cells : D → Cells) (p n : PrimaryParts D) where
   -- A STEP counts files that were not written yet, beside those that were counted
   pub step_fills : (records : List SegRecord) (fresh : List Shown) (files : List File) → IsPrimary cells p → IsPrimary cells n → IsStepOf p records fresh files
       → n.infos ≡ next_infos p.infos records → n.point_infos ≡ next_infos p.infos records → n.searchers.tickets ≡ p.searchers.tickets → KeepsOthers p n → FillsUndrawn p n
@@ -54,9 +54,9 @@ module _ {D : Type 0} (cells : D → Cells) (p n : Parts D) where
             let before : times (searcher_names p.searchers) q ≡ times p.searchers.point.names q + times (ticket_names p.searchers.tickets) q = times-append p.searchers.point.names (ticket_names p.searchers.tickets) q in
             let after : times (searcher_names n.searchers) q ≡ times n.searchers.point.names q + times (ticket_names n.searchers.tickets) q = times-append n.searchers.point.names (ticket_names n.searchers.tickets) q in
             let held : times (ticket_names n.searchers.tickets) q ≡ times (ticket_names p.searchers.tickets) q = ap (λ ts. times (ticket_names ts) q) tickets in
-            let book : times (book_names n.commits) q ≡ times (book_names p.commits) q = ap (λ (x : Parts D). times (book_names x.commits) q) others in
-            let states : times (state_names n.states) q ≡ times (state_names p.states) q = ap (λ (x : Parts D). times (state_names x.states) q) others in
-            let merges : times (merge_names n.merges) q ≡ times (merge_names p.merges) q = ap (λ (x : Parts D). times (merge_names x.merges) q) others in
+            let book : times (book_names n.commits) q ≡ times (book_names p.commits) q = ap (λ (x : PrimaryParts D). times (book_names x.commits) q) others in
+            let states : times (state_names n.states) q ≡ times (state_names p.states) q = ap (λ (x : PrimaryParts D). times (state_names x.states) q) others in
+            let merges : times (merge_names n.merges) q ≡ times (merge_names p.merges) q = ap (λ (x : PrimaryParts D). times (merge_names x.merges) q) others in
             let in_point : 0 < times n.searchers.point.names q = omega (arith, none, some, beside, is.node.counts q, now.node.counts q, was, is_now, before, after, held, book, states, merges) in
             of_infos n.point_infos n.searchers.point.names q point now.searched.files none in_point
       ]
@@ -66,14 +66,14 @@ module _ {D : Type 0} (cells : D → Cells) (p n : Parts D) where
       → n.infos ≡ next_infos p.infos records → n.publish ≡ None → KeepsOthers p n → DrawsOnly p n
   step_draws records fresh files step infos none others = record {
     each = λ q undrawn.
-        let rest : rest_loose n ≡ rest_loose p = ap (λ (x : Parts D). rest_loose x) others in
-        let filled : filled_of n ≡ filled_of p = ap (λ (x : Parts D). filled_of x) others in
+        let rest : rest_loose n ≡ rest_loose p = ap (λ (x : PrimaryParts D). rest_loose x) others in
+        let filled : filled_of n ≡ filled_of p = ap (λ (x : PrimaryParts D). filled_of x) others in
         let loose : loose_of n ≡ rest_loose p = ap (λ (o : Option Publish). publish_loose o ++ rest_loose n) none ∙ rest in
         (step.rest q (subst (λ (fs : List ℕ). IsUndrawn (next_infos p.infos records) (rest_loose p) fs q) filled (subst (λ (i : Infos). IsUndrawn i (rest_loose p) (filled_of n) q) infos (subst (λ (ls : List ℕ). IsUndrawn n.infos ls (filled_of n) q) loose undrawn)))).0;
   }
 
 -- a publish that starts draws its name, and no file is unwritten after it that was not before
-pub start_draws : {D : Type 0} (p : Parts D) (f : Publish) → p.publish ≡ None → publish_loose (Some f) ≡ drawn_to p.infos ∷ [] → DrawsOnly p (record p { infos = counted_on p.infos; publish = Some f })
+pub start_draws : {D : Type 0} (p : PrimaryParts D) (f : Publish) → p.publish ≡ None → publish_loose (Some f) ≡ drawn_to p.infos ∷ [] → DrawsOnly p (record p { infos = counted_on p.infos; publish = Some f })
 start_draws p f none drawn = record {
   each = λ q undrawn.
       subst (λ (o : Option Publish). IsUndrawn p.infos (publish_loose o ++ rest_loose p) (filled_of p) q) (sym none)
@@ -82,7 +82,7 @@ start_draws p f none drawn = record {
 }
 
 -- a publish that draws none
-pub idle_draws : {D : Type 0} (p : Parts D) (f : Publish) → p.publish ≡ None → publish_loose (Some f) ≡ [] → DrawsOnly p (record p { publish = Some f })
+pub idle_draws : {D : Type 0} (p : PrimaryParts D) (f : Publish) → p.publish ≡ None → publish_loose (Some f) ≡ [] → DrawsOnly p (record p { publish = Some f })
 idle_draws p f none drawn = record {
   each = λ q undrawn.
       subst (λ (o : Option Publish). IsUndrawn p.infos (publish_loose o ++ rest_loose p) (filled_of p) q) (sym none)

@@ -14,7 +14,7 @@ use Rattle.segment_steps.specs.Segments.{HasItsRows}
 use Rattle.segment_steps.specs.Next.{IsBounded, IsNextOf, IsBuiltWork}
 use Rattle.segment_steps.proofs.AfterPublish.{flush_fits}
 use Rattle.segment_steps.proofs.PublishLaws.{publish_stand}
-use Rattle.primary_state.specs.declared.parts.Parts.{Parts}
+use Rattle.primary_state.specs.declared.parts.PrimaryParts.{PrimaryParts}
 use Rattle.primary_state.specs.declared.parts.Publish.{Publish}
 use Rattle.seg_reader.specs.Stands.{AreSegmentsOf}
 use Rattle.primary_state.specs.Primary.{IsPrimary, loose_in, publish_loose, rest_loose, loose_of, filled_of}
@@ -32,7 +32,7 @@ number_apart : (n : ℕ) (o : Option SegNo) → (Contains (loose_in o) n → ⊥
 number_apart n None out = tt
 number_apart n (Some s) out = λ same. out (0, omega arith, same)
 
-module _ {D : Type 0} (cells : D → Cells) (p : Parts D) (work : FlushWork) (whole : IsPrimary cells p) (w : IsWorkOf p work) where
+module _ {D : Type 0} (cells : D → Cells) (p : PrimaryParts D) (work : FlushWork) (whole : IsPrimary cells p) (w : IsWorkOf p work) where
   pub many_for : length p.infos.segs ≡ length p.segs
   many_for = as_many (reads_of (cells p.dir)) p.infos.segs p.segs whole.writer.stands.each
 

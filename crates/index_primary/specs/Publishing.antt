@@ -13,7 +13,7 @@ use Rattle.seg_reader.specs.Stands.{IsSegmentIn, AreSegmentsOf}
 use Rattle.copy_state.specs.States.{AreShortNames}
 use Rattle.seg_build.specs.Built.{File}
 use Rattle.searcher_switch.specs.Node.{IsWholeNode}
-use Rattle.primary_state.specs.declared.parts.Parts.{Parts}
+use Rattle.primary_state.specs.declared.parts.PrimaryParts.{PrimaryParts}
 use Rattle.index_primary.specs.declared.ready.Ready.{Ready}
 use Rattle.searcher_switch.specs.Standing.{IsStanding}
 use Rattle.primary_state.specs.Held.{IsUndrawn, IsOwnFile, AreUndrawn, AreNumbered, next_infos}
@@ -42,11 +42,11 @@ pub record IsStep (infos : Infos) (segs : List Shown) (loose still filled : List
       → IsMergeOf (zip infos.segs segs) inputs docs noted → IsMergeOf (zip records fresh) inputs docs noted
 
 -- the same of a primary
-abbrev pub IsStepOf : {D : Type 0} → Parts D → List SegRecord → List Shown → List File → Type 0
+abbrev pub IsStepOf : {D : Type 0} → PrimaryParts D → List SegRecord → List Shown → List File → Type 0
 IsStepOf p records fresh files = IsStep p.infos p.segs (loose_of p) (rest_loose p) (filled_of p) (merge_inputs p.merges) records fresh files
 
 -- all that a publish needs memory for
-pub record IsReady {D : Type 0} (p : Parts D) (r : Ready) : Type 0 where
+pub record IsReady {D : Type 0} (p : PrimaryParts D) (r : Ready) : Type 0 where
   pub step : IsStepOf p r.infos.segs r.segs r.files
   pub infos : r.infos ≡ next_infos p.infos r.infos.segs
   pub point_infos : r.point_infos ≡ r.infos
@@ -59,7 +59,7 @@ pub record IsReady {D : Type 0} (p : Parts D) (r : Ready) : Type 0 where
   pub gone : r.gone ≡ p.searchers.point.names ++ p.names ++ r.written
 
 -- the new files are written and in hand, and those of the new infos are counted twice
-pub record HasWritten {D : Type 0} (cells : D → Cells) (p : Parts D) (r : Ready) : Type 0 where
+pub record HasWritten {D : Type 0} (cells : D → Cells) (p : PrimaryParts D) (r : Ready) : Type 0 where
   pub ready : IsReady p r
   pub node : IsWholeNode (cells p.dir) p.files (r.twice ++ (r.written ++ primary_names p)) p.commits
   pub standing : IsStanding (reads_of (cells p.dir)) p.commits

@@ -16,13 +16,17 @@ use crate::cut::end_cut;
 use crate::ready::Ready;
 use disk_model::{Dir, DirFault};
 use nrt_base::{List, NoMemory, Share, Version};
-use primary_state::{Parts, PrimaryFault, inputs_of, joined, names_in, write_all};
+use primary_state::{PrimaryFault, PrimaryParts, inputs_of, joined, names_in, write_all};
 use segment_infos::{Infos, files_of};
 use segment_steps::{FlushWork, NextSegments, next_segments};
 use std::alloc::Global;
 
 // All that a publish needs memory for.
-fn prepare<D: Dir>(alloc: Global, parts: &Parts<D>, made: NextSegments) -> Result<Ready, NoMemory>
+fn prepare<D: Dir>(
+    alloc: Global,
+    parts: &PrimaryParts<D>,
+    made: NextSegments,
+) -> Result<Ready, NoMemory>
     requires step { IsStepOf parts.now made.records made.segs made.files }
     requires below { parts.now.infos.version.0 + 1 < 2 ^ 63 }
     ensures ready { IfOk result (IsReady parts.now) }
@@ -67,7 +71,7 @@ fn prepare<D: Dir>(alloc: Global, parts: &Parts<D>, made: NextSegments) -> Resul
 }
 
 // Writes the new files, and counts those of the new infos twice: once for these and once for the point.
-fn write<D: Dir>(alloc: Global, parts: &mut Parts<D>, ready: &Ready) -> Result<(), DirFault>
+fn write<D: Dir>(alloc: Global, parts: &mut PrimaryParts<D>, ready: &Ready) -> Result<(), DirFault>
     requires whole { IsPrimary D.cells parts.old }
     requires ready { IsReady parts.old ready.now }
     ensures written { OnOk result (HasWritten D.cells parts.new ready.now) }
@@ -104,7 +108,7 @@ fn write<D: Dir>(alloc: Global, parts: &mut Parts<D>, ready: &Ready) -> Result<(
 }
 
 // Searches the new point, and gives back the files of the former one, those of the former infos, and what is in hand.
-fn place<D: Dir>(parts: &mut Parts<D>, ready: Ready) -> Version
+fn place<D: Dir>(parts: &mut PrimaryParts<D>, ready: Ready) -> Version
     requires { HasWritten D.cells parts.old ready }
     ensures version { result ≡ ready.infos.version }
     ensures point { parts.new.searchers.point
@@ -136,7 +140,7 @@ fn place<D: Dir>(parts: &mut Parts<D>, ready: Ready) -> Version
 }
 
 // No publish is in flight from now on.
-fn end_publish<D: Dir>(parts: &mut Parts<D>)
+fn end_publish<D: Dir>(parts: &mut PrimaryParts<D>)
     requires { IsPrimary D.cells parts.old }
     ensures set { parts.new ≡ record parts.old { publish = None } }
     ensures whole { IsPrimary D.cells parts.new }
@@ -147,7 +151,7 @@ fn end_publish<D: Dir>(parts: &mut Parts<D>)
 // Writes the new files, makes a point of the new segments, and gives back what is named no more.
 fn make_point<D: Dir>(
     alloc: Global,
-    parts: &mut Parts<D>,
+    parts: &mut PrimaryParts<D>,
     made: NextSegments,
 ) -> Result<Version, PrimaryFault>
     requires whole { IsPrimary D.cells parts.old }
@@ -191,7 +195,7 @@ fn make_point<D: Dir>(
 /// Ends a publish with the work that was made for it.
 pub fn publish_end<D: Dir>(
     alloc: Global,
-    parts: &mut Parts<D>,
+    parts: &mut PrimaryParts<D>,
     work: FlushWork,
 ) -> Result<Version, PrimaryFault>
     requires whole { IsPrimary D.cells parts.old }

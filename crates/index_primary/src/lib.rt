@@ -9,6 +9,6 @@ mod starts;
 
 pub use primary::Primary;
 pub use primary_merges::{
-    FlushTask, FlushWork, MergeTask, Merged, Merging, NextSegments, Out, Parts, PrimaryFault,
-    Publish, PublishFault, flush,
+    FlushTask, FlushWork, MergeTask, Merged, Merging, NextSegments, Out, PrimaryFault,
+    PrimaryParts, Publish, PublishFault, flush,
 };

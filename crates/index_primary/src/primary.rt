@@ -27,7 +27,7 @@ use file_deleter::FileDeleter;
 use file_names::FileName;
 use nrt_base::{List, NoMemory, SegNo, Version};
 use primary_merges::{
-    FlushTask, FlushWork, MergeTask, Merged, Parts, PrimaryFault, PublishFault, Segment,
+    FlushTask, FlushWork, MergeTask, Merged, PrimaryFault, PrimaryParts, PublishFault, Segment,
 };
 use primary_state::{Lease, Searchers, Ticket};
 use segment_infos::Infos;
@@ -38,14 +38,14 @@ use std::marker::Model;
 /// the counted ones and those whose removal is due, and each point and commit stands for documents.
 #[derive(Drop)]
 pub struct Primary<D: Dir> {
-    parts: Parts<D>,
+    parts: PrimaryParts<D>,
 }
 
 impl<D: Dir> Model for Primary<D> {
-    ghost use Rattle.primary_state.specs.declared.parts.Parts.{Parts};
+    ghost use Rattle.primary_state.specs.declared.parts.PrimaryParts.{PrimaryParts};
     ghost use Rattle.primary_state.specs.Primary.{IsPrimary};
 
-    ghost Value = { Parts D };
+    ghost Value = { PrimaryParts D };
 
     ghost view = { λ p. p.parts };
 

@@ -9,7 +9,7 @@ ghost use Rattle.primary_state.specs.Calls.{IsTaskOf, after_start, DrawsOnly};
 use crate::cut::is_put_among;
 use disk_model::Dir;
 use nrt_base::{SegNo, Share};
-use primary_state::{Parts, Publish, PublishFault};
+use primary_state::{PrimaryParts, Publish, PublishFault};
 use segment_steps::FlushTask;
 use std::alloc::Global;
 
@@ -17,7 +17,7 @@ use std::alloc::Global;
 const SEGMENTS: usize = 256;
 
 // Whether there is something to publish, and then whether there is a put; or why a publish is refused.
-fn judge<D: Dir>(parts: &Parts<D>) -> Result<Option<bool>, PublishFault>
+fn judge<D: Dir>(parts: &PrimaryParts<D>) -> Result<Option<bool>, PublishFault>
     requires { parts.now.infos.counter ≤ segments_of_generation }
     ensures idle { (result ≡ Ok None) ↔ IsIdle parts.now.waiting parts.now.has_cut_over }
     ensures spent { IsErrOf result PublishFault.NamesSpent
@@ -48,7 +48,7 @@ fn judge<D: Dir>(parts: &Parts<D>) -> Result<Option<bool>, PublishFault>
 /// Starts a publish.
 pub fn publish_start<D: Dir>(
     alloc: Global,
-    parts: &mut Parts<D>,
+    parts: &mut PrimaryParts<D>,
 ) -> Result<Option<FlushTask>, PublishFault>
     requires whole { IsPrimary D.cells parts.old }
     requires none { parts.old.publish ≡ None }

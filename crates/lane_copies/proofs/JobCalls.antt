@@ -24,7 +24,7 @@ use Rattle.history_tables.specs.declared.jobs.Job.{Job}
 use Rattle.history_tables.specs.declared.jobs.JobRow.{JobRow}
 use Rattle.history_tables.specs.declared.jobs.JobStep.TheVariants.{Passes}
 use Rattle.history_tables.specs.declared.lines.Start.TheVariants.{Searching as SearchStart}
-use Rattle.history_tables.specs.declared.lines.Begun.{Begun}
+use Rattle.history_tables.specs.declared.lines.BegunLine.{BegunLine}
 use Rattle.history_tables.specs.Begins.{begin, begun_by, open_line}
 use Rattle.history_tables.specs.JobRows.{row_if_some}
 use Rattle.history_book.specs.Log.{Log, printed, shown}
@@ -407,7 +407,7 @@ pub closed_settle : (at : At) (r : Run) (left : SettleTask) (found : Bool) → (
 closed_settle at r left found tells is begun =
     closed_replied at (printed r.log) (λ none. let some : Some (Settling left.version) ≡ None = sym begun ∙ none in absurd (cc)) (by (open_line at (printed r.log)) refl)
   where
-    by : (o : Option Begun) → open_line at (printed r.log) ≡ o → o ≡ None
+    by : (o : Option BegunLine) → open_line at (printed r.log) ≡ o → o ≡ None
     by None is' = refl
     by (Some b) is' = absurd (true≢false (sym (tells.1 (λ none. let some : Some b ≡ None = sym is' ∙ none in cc)) ∙ is))
 

@@ -17,7 +17,7 @@ use Rattle.history_tables.specs.declared.jobs.Job.{Job}
 use Rattle.history_tables.specs.declared.jobs.JobRow.{JobRow}
 use Rattle.history_tables.specs.declared.jobs.JobStep.{JobStep}
 use Rattle.history_tables.specs.declared.jobs.JobStep.TheVariants.{Begins, Ends, Passes}
-use Rattle.history_tables.specs.declared.lines.Begun.{Begun}
+use Rattle.history_tables.specs.declared.lines.BegunLine.{BegunLine}
 use Rattle.history_tables.specs.Begins.{begun_by, open_line}
 use Rattle.history_tables.specs.JobRows.{row_by, row_if_some, is_going, last_job_by}
 use Rattle.history_book.specs.declared.inner.Inner.{Inner}
@@ -37,7 +37,7 @@ use Rattle.lane_copies.specs.Jobs.{IsJobStart, IsCopyingBy, IsStillSettling}
 
 -- ---- the line
 
-still_by : (b : Bool) (a : At) (e : Event) (past : Past) (n m : ℕ) (o : Option Begun) → FollowsMerging a e past → (if b then begun_by e n m o else o) ≡ o
+still_by : (b : Bool) (a : At) (e : Event) (past : Past) (n m : ℕ) (o : Option BegunLine) → FollowsMerging a e past → (if b then begun_by e n m o else o) ≡ o
 still_by true a (Met k kind) past n m o h = refl
 still_by false a (Met k kind) past n m o h = refl
 still_by b a e past n m o h = absurd h

@@ -35,7 +35,7 @@ pub trait RunsLines<T: LaneRun> {
     /// Whether it runs lines of this command.
     ghost runs: { Self → LineCommand → Bool };
 
-    /// Runs a line of which no entry stands there, from its start to its reply. `Err` is want of memory alone.
+    /// Runs a line of which no entry stands there, from its start to its reply. It fails only when out of memory.
     ///
     /// A line that waits for another lane's ends too once a lane has failed.
     fn run_line<R: Wait>(
@@ -52,7 +52,7 @@ pub trait RunsLines<T: LaneRun> {
         ensures { OnOk result (EndsItsLine (set_up self.now).log lock.now
             line.now.command line.now.at seat.old seat.new) };
 
-    /// Does a task that is posted, and answers whether there was one. `Err` is want of memory alone.
+    /// Does a task that is posted, and answers whether there was one. It fails only when out of memory.
     ///
     /// What is appended is nobody's: for the lane or worker it is as if others had gone on.
     fn do_task<R: Wait>(

@@ -101,7 +101,7 @@ fn is_whole<T: LaneRun>(run: &T, script: &Script) -> bool
 /// Runs a script on a new value, by eight lanes and the script's workers in threads of their own, and answers the value as the script
 /// leaves it.
 ///
-/// Whatever the threads do in between, the history that is left serves the script. `Err` is want of memory alone.
+/// Whatever the threads do in between, the history that is left serves the script. It fails only when out of memory.
 pub fn run_script<R: Threads + Wait + Sync, T: LaneRun + Send + Drop, Q: RunsLines<T> + Sync>(
     rt: &R,
     alloc: Global,

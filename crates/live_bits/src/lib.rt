@@ -8,6 +8,3 @@ mod live;
 
 pub use file::{encode, read_live};
 pub use live::LiveBits;
-
-#[cfg(test)]
-mod tests;

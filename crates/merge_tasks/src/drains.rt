@@ -35,7 +35,7 @@ pub(crate) fn forget(counts: &mut Vec<DrainCount>, at: At)
     counts.retain(|row| !same_at(row.at, at));
 }
 
-/// Counts one task more for a line. `Err` is want of memory, or of a number below 2^32.
+/// Counts one task more for a line. It fails when out of memory, or out of numbers below 2^32.
 #[tactic(auto, using(crate::proofs::Counts::one_more))]
 pub(crate) fn count_one(counts: &mut Vec<DrainCount>, at: At) -> Result<(), NoMemory>
     ensures { OnOk result ((x : _) → done_under x counts.new.items

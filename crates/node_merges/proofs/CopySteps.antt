@@ -15,7 +15,7 @@ use Rattle.copy_state.specs.declared.meta.FileMetaData.{FileMetaData}
 use Rattle.copy_state.specs.States.{meta_names, meta_in}
 use Rattle.copy_job.specs.declared.copying.Part.{Part}
 use Rattle.copy_job.specs.Jobs.{Job, IsJob, with_part}
-use Rattle.replica_state.specs.declared.parts.Parts.{Parts as ReplicaParts}
+use Rattle.replica_state.specs.declared.parts.ReplicaParts.{ReplicaParts}
 use Rattle.replica_state.specs.declared.job.PointJob.{PointJob}
 use Rattle.replica_state.specs.declared.merges.MergeCopies.{MergeCopies}
 use Rattle.replica_state.specs.Merges.{copy_at, copies_with, copies_without, copies_seen, no_copies, SharesNone}
@@ -25,11 +25,11 @@ use Rattle.replica_state.specs.Sources.{IsSourced, KeepsSource}
 use Rattle.cluster_nodes.specs.Given.{running_job, with_job, without_job}
 use Rattle.cluster_nodes.specs.declared.nodes.Node.{Node}
 use Rattle.cluster_nodes.specs.declared.nodes.Node.TheVariants.{Primary, Replica, Down}
-use Rattle.cluster_nodes.specs.declared.nodes.Place.{Place}
+use Rattle.cluster_nodes.specs.declared.nodes.NodePlace.{NodePlace}
 use Rattle.cluster_nodes.specs.JobChanges.{IsNextToFetch}
 use Rattle.history_tables.proofs.RowLemmas.{by_test}
 use Rattle.cluster_nodes.proofs.JobFiles.{wanted_meta}
-use Rattle.primary_state.specs.declared.parts.Parts.{Parts as PrimaryParts}
+use Rattle.primary_state.specs.declared.parts.PrimaryParts.{PrimaryParts}
 use Rattle.node_merges.specs.declared.copies.CopyStep.{CopyStep}
 use Rattle.node_merges.specs.declared.copies.CopyStep.TheVariants.{Gone}
 use Rattle.node_merges.specs.MergeChanges.{is_copy_of, MaySend, SendsMerged, IsStepOf, TakesMerged, DropsMerged}
@@ -161,15 +161,15 @@ CopyLaw D = (cells : D → Cells) (number : ℕ) (p : ReplicaParts D) (c : Job) 
 
 module _ {D : Type 0} where
   -- what is next to do at the node that is there
-  pub step_there : {E : Type 0} (result : Result CopyStep E) (seg number : ℕ) (o : Option (Place D)) (place : Place D) (r : ReplicaParts D) → o ≡ Some place → place.node ≡ Replica r
+  pub step_there : {E : Type 0} (result : Result CopyStep E) (seg number : ℕ) (o : Option (NodePlace D)) (place : NodePlace D) (r : ReplicaParts D) → o ≡ Some place → place.node ≡ Replica r
       → IfOk result (IsStepOf seg number r) → IfOk result (IsStepAt seg number o)
-  step_there result seg number o place r is there step = subst (λ (x : Option (Place D)). IfOk result (IsStepAt seg number x)) (sym (is ∙ ap (λ (z : Node D). Some (record place { node = z })) there)) step
+  step_there result seg number o place r is there step = subst (λ (x : Option (NodePlace D)). IfOk result (IsStepAt seg number x)) (sym (is ∙ ap (λ (z : Node D). Some (record place { node = z })) there)) step
 
-  pub gone_primary : (seg number : ℕ) (o : Option (Place D)) (place : Place D) (p : PrimaryParts D) → o ≡ Some place → place.node ≡ Primary p → IsStepAt seg number o Gone
-  gone_primary seg number o place p is there = subst (λ (x : Option (Place D)). IsStepAt seg number x Gone) (sym (is ∙ ap (λ (z : Node D). Some (record place { node = z })) there)) refl
+  pub gone_primary : (seg number : ℕ) (o : Option (NodePlace D)) (place : NodePlace D) (p : PrimaryParts D) → o ≡ Some place → place.node ≡ Primary p → IsStepAt seg number o Gone
+  gone_primary seg number o place p is there = subst (λ (x : Option (NodePlace D)). IsStepAt seg number x Gone) (sym (is ∙ ap (λ (z : Node D). Some (record place { node = z })) there)) refl
 
-  pub gone_down : (seg number : ℕ) (o : Option (Place D)) (place : Place D) (d : D) → o ≡ Some place → place.node ≡ Down d → IsStepAt seg number o Gone
-  gone_down seg number o place d is there = subst (λ (x : Option (Place D)). IsStepAt seg number x Gone) (sym (is ∙ ap (λ (z : Node D). Some (record place { node = z })) there)) refl
+  pub gone_down : (seg number : ℕ) (o : Option (NodePlace D)) (place : NodePlace D) (d : D) → o ≡ Some place → place.node ≡ Down d → IsStepAt seg number o Gone
+  gone_down seg number o place d is there = subst (λ (x : Option (NodePlace D)). IsStepAt seg number x Gone) (sym (is ∙ ap (λ (z : Node D). Some (record place { node = z })) there)) refl
 
 module _ {D : Type 0} (cells : D → Cells) where
   -- a copy that lacks the part, of the metadata that is wanted

@@ -7,24 +7,24 @@ use Rattle.file_deleter.specs.Holdings.{count_of}
 use Rattle.searcher_switch.specs.Appearing.{NoneAppears, AppearsOnly}
 use Rattle.searcher_switch.proofs.Appearing.{only_then_none}
 use Rattle.copy_state.specs.declared.state.CopyState.{CopyState}
-use Rattle.primary_state.specs.declared.parts.Parts.{Parts as PrimaryParts}
+use Rattle.primary_state.specs.declared.parts.PrimaryParts.{PrimaryParts}
 use Rattle.primary_state.specs.declared.states.Out.{Out}
 use Rattle.primary_state.specs.Held.{IsOwnFile}
 use Rattle.primary_state.specs.States.{out_of, is_out, states_without}
 use Rattle.primary_state.specs.Primary.{IsPrimary, KeepsHeldBytes, IsUnwritten, loose_of}
 use Rattle.primary_state.specs.Calls.{FillsUndrawn, DrawsOnly, HoldsNoNew}
 use Rattle.cluster_nodes.specs.Given.{IsCutOver, KeepsDocuments}
-use Rattle.cluster_nodes.specs.declared.held.Held.{Held}
+use Rattle.cluster_nodes.specs.declared.held.HeldTicket.{HeldTicket}
 use Rattle.cluster_nodes.specs.declared.nodes.Node.TheVariants.{Primary, Replica}
-use Rattle.cluster_nodes.specs.declared.nodes.Place.{Place}
+use Rattle.cluster_nodes.specs.declared.nodes.NodePlace.{NodePlace}
 use Rattle.cluster_nodes.specs.Places.{place_of, IsSlot}
-use Rattle.replica_state.specs.declared.parts.Parts.{Parts as ReplicaParts}
+use Rattle.replica_state.specs.declared.parts.ReplicaParts.{ReplicaParts}
 use Rattle.cluster_nodes.proofs.Taking.{moved_one}
 use Rattle.node_merges.specs.MergeChanges.{CutsMerge}
 use Rattle.node_merges.specs.MergePlaces.{MovesPrimary, MovesReplica}
 
 module _ {D : Type 0} where
-  pub primary_moved : (Step : PrimaryParts D → PrimaryParts D → Type 0) (old mid new : List (Option (Place D))) (p : ℕ) (q r : PrimaryParts D) (held : Vec Held Global) → IsSlot old p
+  pub primary_moved : (Step : PrimaryParts D → PrimaryParts D → Type 0) (old mid new : List (Option (NodePlace D))) (p : ℕ) (q r : PrimaryParts D) (held : Vec HeldTicket Global) → IsSlot old p
       → length mid ≡ length old → ((m : ℕ) → place_of mid m ≡ (if p == m then None else place_of old m)) → length new ≡ length mid → ((m : ℕ) → place_of new m ≡ (if p == m then Some (record { node = Primary r; held = held }) else place_of mid m))
       → place_of old p ≡ Some (record { node = Primary q; held = held }) → Step q r → MovesPrimary Step p old new
   primary_moved Step old mid new p q r held slot cm tm cn tn there step = record {
@@ -34,7 +34,7 @@ module _ {D : Type 0} where
     step = step;
   }
 
-  pub replica_moved : (Step : ReplicaParts D → ReplicaParts D → Type 0) (old mid new : List (Option (Place D))) (n : ℕ) (r s : ReplicaParts D) (held : Vec Held Global) → IsSlot old n
+  pub replica_moved : (Step : ReplicaParts D → ReplicaParts D → Type 0) (old mid new : List (Option (NodePlace D))) (n : ℕ) (r s : ReplicaParts D) (held : Vec HeldTicket Global) → IsSlot old n
       → length mid ≡ length old → ((m : ℕ) → place_of mid m ≡ (if n == m then None else place_of old m)) → length new ≡ length mid → ((m : ℕ) → place_of new m ≡ (if n == m then Some (record { node = Replica s; held = held }) else place_of mid m))
       → place_of old n ≡ Some (record { node = Replica r; held = held }) → Step r s → MovesReplica Step n old new
   replica_moved Step old mid new n r s held slot cm tm cn tn there step = record {
@@ -45,19 +45,19 @@ module _ {D : Type 0} where
   }
 
   -- the same where it was answered so
-  pub primary_ok : {T E : Type 0} (Step : PrimaryParts D → PrimaryParts D → Type 0) (result : Result T E) (old mid new : List (Option (Place D))) (p : ℕ) (q r : PrimaryParts D) (held : Vec Held Global) → IsSlot old p
+  pub primary_ok : {T E : Type 0} (Step : PrimaryParts D → PrimaryParts D → Type 0) (result : Result T E) (old mid new : List (Option (NodePlace D))) (p : ℕ) (q r : PrimaryParts D) (held : Vec HeldTicket Global) → IsSlot old p
       → length mid ≡ length old → ((m : ℕ) → place_of mid m ≡ (if p == m then None else place_of old m)) → length new ≡ length mid → ((m : ℕ) → place_of new m ≡ (if p == m then Some (record { node = Primary r; held = held }) else place_of mid m))
       → place_of old p ≡ Some (record { node = Primary q; held = held }) → OnOk result (Step q r) → OnOk result (MovesPrimary Step p old new)
   primary_ok Step (Ok x) old mid new p q r held slot cm tm cn tn there step = primary_moved Step old mid new p q r held slot cm tm cn tn there step
   primary_ok Step (Err e) old mid new p q r held slot cm tm cn tn there step = tt
 
-  pub replica_ok : {T E : Type 0} (Step : ReplicaParts D → ReplicaParts D → Type 0) (result : Result T E) (old mid new : List (Option (Place D))) (n : ℕ) (r s : ReplicaParts D) (held : Vec Held Global) → IsSlot old n
+  pub replica_ok : {T E : Type 0} (Step : ReplicaParts D → ReplicaParts D → Type 0) (result : Result T E) (old mid new : List (Option (NodePlace D))) (n : ℕ) (r s : ReplicaParts D) (held : Vec HeldTicket Global) → IsSlot old n
       → length mid ≡ length old → ((m : ℕ) → place_of mid m ≡ (if n == m then None else place_of old m)) → length new ≡ length mid → ((m : ℕ) → place_of new m ≡ (if n == m then Some (record { node = Replica s; held = held }) else place_of mid m))
       → place_of old n ≡ Some (record { node = Replica r; held = held }) → OnOk result (Step r s) → OnOk result (MovesReplica Step n old new)
   replica_ok Step (Ok x) old mid new n r s held slot cm tm cn tn there step = replica_moved Step old mid new n r s held slot cm tm cn tn there step
   replica_ok Step (Err e) old mid new n r s held slot cm tm cn tn there step = tt
 
-  pub replica_answers : {T E : Type 0} (Step : T → ReplicaParts D → ReplicaParts D → Type 0) (result : Result T E) (old mid new : List (Option (Place D))) (n : ℕ) (r s : ReplicaParts D) (held : Vec Held Global) → IsSlot old n
+  pub replica_answers : {T E : Type 0} (Step : T → ReplicaParts D → ReplicaParts D → Type 0) (result : Result T E) (old mid new : List (Option (NodePlace D))) (n : ℕ) (r s : ReplicaParts D) (held : Vec HeldTicket Global) → IsSlot old n
       → length mid ≡ length old → ((m : ℕ) → place_of mid m ≡ (if n == m then None else place_of old m)) → length new ≡ length mid → ((m : ℕ) → place_of new m ≡ (if n == m then Some (record { node = Replica s; held = held }) else place_of mid m))
       → place_of old n ≡ Some (record { node = Replica r; held = held }) → IfOk result (λ x. Step x r s) → IfOk result (λ x. MovesReplica (Step x) n old new)
   replica_answers Step (Ok x) old mid new n r s held slot cm tm cn tn there step = replica_moved (Step x) old mid new n r s held slot cm tm cn tn there step

@@ -14,7 +14,7 @@ use Rattle.copy_job.specs.declared.copying.Part.{Part}
 use Rattle.copy_job.specs.Jobs.{Job, reads_under}
 use Rattle.seg_merge.specs.declared.task.MergeTask.{MergeTask}
 use Rattle.seg_merge.specs.declared.task.Merged.{Merged}
-use Rattle.primary_state.specs.declared.parts.Parts.{Parts as PrimaryParts}
+use Rattle.primary_state.specs.declared.parts.PrimaryParts.{PrimaryParts}
 use Rattle.primary_state.specs.declared.parts.PublishFault.{PublishFault}
 use Rattle.primary_state.specs.declared.states.Out.{Out}
 use Rattle.primary_state.specs.Cut.{last_number}
@@ -25,7 +25,7 @@ use Rattle.primary_state.specs.Primary.{IsPrimary, KeepsHeldBytes, loose_of}
 use Rattle.primary_state.specs.Calls.{FillsUndrawn, DrawsOnly, HoldsNoNew}
 use Rattle.cluster_nodes.specs.Given.{AnswersMerge, IsFitTask, IsReadied, IsFilledMerge, IsCutOver, KeepsDocuments, SettlesCopy}
 use Rattle.cluster_nodes.specs.JobChanges.{IsNextToFetch}
-use Rattle.replica_state.specs.declared.parts.Parts.{Parts as ReplicaParts}
+use Rattle.replica_state.specs.declared.parts.ReplicaParts.{ReplicaParts}
 use Rattle.replica_state.specs.Merges.{copy_at, copies_with, copies_without, copies_seen, IsSegmentState, SharesNone}
 use Rattle.replica_state.specs.Jobs.{merge_job_on, job_seen, running_point}
 use Rattle.replica_state.specs.Replica.{IsWholeReplica, AreStanding}

@@ -10,7 +10,7 @@ ghost use Rattle.node_merges.specs.MergeChanges.{is_copy_of, MaySend, SendsMerge
 ghost use Rattle.node_merges.specs.MergePlaces.{IsReplicaIn, MovesReplica, IsStepAt, RunsCopyOf};
 
 use cluster_nodes::{
-    Node, Place, Replica, copy_runs, lacks, next_file, put, share_state, take_replica,
+    Node, NodePlace, Replica, copy_runs, lacks, next_file, put, share_state, take_replica,
 };
 use copy_job::{CopyJob, Part};
 use copy_state::{CopyState, FileMetaData};
@@ -54,11 +54,11 @@ fn send<D: Dir + Drop>(
     Ok(job)
 }
 
-/// Begins a copy of a merged segment at the replica in this place, and answers its number. `Err` is want of memory, or of a number
+/// Begins a copy of a merged segment at the replica in this place, and answers its number. It fails when out of memory, or out of numbers
 /// below 2^63.
 pub fn send_in<D: Dir + Drop>(
     alloc: Global,
-    places: &mut Vec<Option<Place<D>>>,
+    places: &mut Vec<Option<NodePlace<D>>>,
     n: NodeNo,
     state: &CopyState,
 ) -> Result<u64, NoMemory>
@@ -70,7 +70,7 @@ pub fn send_in<D: Dir + Drop>(
     let (mut replica, held) = take_replica(places, n);
     let sent = send(alloc, &mut replica, state);
     let node = Node::Replica(replica);
-    put(places, n, Place { node, held });
+    put(places, n, NodePlace { node, held });
     sent
 }
 
@@ -114,7 +114,7 @@ fn step_of<D: Dir + Drop>(
 /// What is next to do for a copy of this segment at the node in this place.
 pub fn step_in<D: Dir + Drop>(
     alloc: Global,
-    places: &Vec<Option<Place<D>>>,
+    places: &Vec<Option<NodePlace<D>>>,
     n: NodeNo,
     job: u64,
     seg: SegNo,
@@ -134,7 +134,7 @@ pub fn step_in<D: Dir + Drop>(
 
 /// Whether a copy of this segment runs at the node in this place, under this number.
 pub fn runs_in<D: Dir + Drop>(
-    places: &Vec<Option<Place<D>>>,
+    places: &Vec<Option<NodePlace<D>>>,
     n: NodeNo,
     job: u64,
     seg: SegNo,
@@ -182,7 +182,7 @@ fn take_merged<D: Dir + Drop>(
 
 /// Puts a part into a copy of a merged segment at the replica in this place, where it lacks it still.
 pub fn take_merged_in<D: Dir + Drop>(
-    places: &mut Vec<Option<Place<D>>>,
+    places: &mut Vec<Option<NodePlace<D>>>,
     n: NodeNo,
     job: u64,
     part: Part,
@@ -195,7 +195,7 @@ pub fn take_merged_in<D: Dir + Drop>(
     let (mut replica, held) = take_replica(places, n);
     let taken = take_merged(&mut replica, job, part);
     let node = Node::Replica(replica);
-    put(places, n, Place { node, held });
+    put(places, n, NodePlace { node, held });
     taken
 }
 
@@ -213,7 +213,7 @@ fn settle<D: Dir + Drop>(alloc: Global, replica: &mut Replica<D>, job: u64) -> R
 /// The files of a copy at the replica in this place, of which nothing is missing, are pending from now on.
 pub fn settle_in<D: Dir + Drop>(
     alloc: Global,
-    places: &mut Vec<Option<Place<D>>>,
+    places: &mut Vec<Option<NodePlace<D>>>,
     n: NodeNo,
     job: u64,
 ) -> Result<(), NoMemory>
@@ -224,7 +224,7 @@ pub fn settle_in<D: Dir + Drop>(
     let (mut replica, held) = take_replica(places, n);
     let settled = settle(alloc, &mut replica, job);
     let node = Node::Replica(replica);
-    put(places, n, Place { node, held });
+    put(places, n, NodePlace { node, held });
     settled
 }
 
@@ -239,12 +239,12 @@ pub fn drop_copy<D: Dir + Drop>(replica: &mut Replica<D>, job: u64)
 }
 
 /// Ends a copy of a merged segment at the replica in this place. Takes no memory.
-pub fn drop_in<D: Dir + Drop>(places: &mut Vec<Option<Place<D>>>, n: NodeNo, job: u64)
+pub fn drop_in<D: Dir + Drop>(places: &mut Vec<Option<NodePlace<D>>>, n: NodeNo, job: u64)
     requires { IsReplicaIn (λ r. IsSome (copy_at job r.copies.running)) n.0 places.old.items }
     ensures { MovesReplica (DropsMerged D.cells job) n.0 places.old.items places.new.items }
 {
     let (mut replica, held) = take_replica(places, n);
     drop_copy(&mut replica, job);
     let node = Node::Replica(replica);
-    put(places, n, Place { node, held });
+    put(places, n, NodePlace { node, held });
 }

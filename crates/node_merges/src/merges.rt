@@ -7,7 +7,7 @@ ghost use Rattle.cluster_nodes.specs.Places.{place_of, IsSlot, HasPrimary};
 ghost use Rattle.node_merges.specs.MergeChanges.{AsksMerge, ReadiesMerge, MayCut, CutsMerge};
 ghost use Rattle.node_merges.specs.MergePlaces.{IsPrimaryIn, MovesPrimary};
 
-use cluster_nodes::{Node, Place, Primary, PublishFault, put, take_primary};
+use cluster_nodes::{Node, NodePlace, Primary, PublishFault, put, take_primary};
 use copy_state::CopyState;
 use disk_model::Dir;
 use nrt_base::{NoMemory, NodeNo, SegNo};
@@ -17,7 +17,7 @@ use std::alloc::{AllocError, Global};
 /// Asks the primary in this place for a merge.
 pub fn ask_in<D: Dir + Drop>(
     alloc: Global,
-    places: &mut Vec<Option<Place<D>>>,
+    places: &mut Vec<Option<NodePlace<D>>>,
     p: NodeNo,
     factor: u32,
 ) -> Result<Option<MergeTask>, PublishFault>
@@ -30,14 +30,14 @@ pub fn ask_in<D: Dir + Drop>(
     let (mut primary, held) = take_primary(places, p);
     let asked = primary.merge_start(alloc, factor);
     let node = Node::Primary(primary);
-    put(places, p, Place { node, held });
+    put(places, p, NodePlace { node, held });
     asked
 }
 
 /// Writes the files of a merged segment at the primary in this place, and answers a copy state that names them.
 pub fn ready_in<D: Dir + Drop>(
     alloc: Global,
-    places: &mut Vec<Option<Place<D>>>,
+    places: &mut Vec<Option<NodePlace<D>>>,
     p: NodeNo,
     merged: Merged,
 ) -> Result<CopyState, NoMemory>
@@ -48,7 +48,7 @@ pub fn ready_in<D: Dir + Drop>(
     let (mut primary, held) = take_primary(places, p);
     let readied = primary.merge_ready(alloc, merged);
     let node = Node::Primary(primary);
-    put(places, p, Place { node, held });
+    put(places, p, NodePlace { node, held });
     match readied {
         Ok(state) => Ok(state),
         Err(_) => Err(AllocError),
@@ -75,7 +75,7 @@ fn cut_over<D: Dir + Drop>(
 /// Cuts a merge over at the primary in this place, and gives its copy state back.
 pub fn cut_in<D: Dir + Drop>(
     alloc: Global,
-    places: &mut Vec<Option<Place<D>>>,
+    places: &mut Vec<Option<NodePlace<D>>>,
     p: NodeNo,
     seg: SegNo,
     state: CopyState,
@@ -87,6 +87,6 @@ pub fn cut_in<D: Dir + Drop>(
     let (mut primary, held) = take_primary(places, p);
     let cut = cut_over(alloc, &mut primary, seg, state);
     let node = Node::Primary(primary);
-    put(places, p, Place { node, held });
+    put(places, p, NodePlace { node, held });
     cut
 }

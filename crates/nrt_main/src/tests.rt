@@ -95,10 +95,21 @@ const NOTICE: &[u8] = b"\0\0\0\x11\x01\0\0\0\0\0\0\0\x01\0\0\0\0\0\0\0\x02";
 
 const NOTICE_AND_MORE: &[u8] = b"\0\0\0\x11\x01\0\0\0\0\0\0\0\x01\0\0\0\0\0\0\0\x02\0";
 
+// A notice, a completed name and a chunk of one byte.
+const MESSAGES: &[u8] =
+    b"\0\0\0\x11\x01\0\0\0\0\0\0\0\x01\0\0\0\0\0\0\0\x02\0\0\0\x03\x04\x01a\0\0\0\x0c\x05\x01a\0\0\0\0\0\0\0\x07x";
+
 #[test]
 fn frames(rt: HostRuntime) -> Result<(), Fail> {
     let rows: &[(&[u8], &[u64], &[u64], Status, &[u8])] = &[
         (NOTICE, &[], &[], Status::Done, b"notice 1 2\n"),
+        (
+            MESSAGES,
+            &[],
+            &[],
+            Status::Done,
+            b"notice 1 2\ncompleted a\nchunk a 7 1\n",
+        ),
         (b"", &[], &[], Status::Done, b""),
         (NOTICE, &[2], &[], Status::ReadFault, b""),
         (NOTICE, &[], &[2], Status::WriteFault, b"not"),
@@ -164,44 +175,48 @@ fn loads(rt: HostRuntime) -> Result<(), Fail> {
     Ok(())
 }
 
-#[test]
-fn replica_never_copied(rt: HostRuntime) -> Result<(), Fail> {
-    let script = b"nodes 2\n1 put a x\n1 publish\n1 search 2 x";
-    let (status, text) = run(&rt, rt.alloc(), &[b"run"], script, &[], &[])?;
-    assert_eq!(rt; status, Status::Done);
-    assert!(rt; text.ends_with(b"4 opened 2 0 1\n4 answer 2 0 1 0\n"));
-    Ok(())
-}
+// Ordinary use.
+const ARTICLES: &[u8] =
+    b"nodes 3\nworkers 0\n# three articles\n1 put art-1 Storm closes harbour road, ferries wait\n1 put art-2 Harbour road to reopen on Friday\n1 put art-3 Council votes on ferry terminal\n1 publish\n1 settle\n1 search 2 \"harbour road\"\n1 put art-2 Road reopens early\n1 delete art-3\n1 publish\n1 settle\n1 search 3 \"harbour road\"\n1 search 3 road AND NOT storm\n";
 
-#[test]
-fn drop_and_ranks(rt: HostRuntime) -> Result<(), Fail> {
-    let script =
-        b"nodes 2\n1 put a red fox red\n1 put b red hen\n1 put c blue hen\n1 publish\n1 search 1 red OR hen\n1 drop red\n1 put d red owl\n1 publish\n1 search 1 red OR hen";
-    let (status, text) = run(&rt, rt.alloc(), &[b"run"], script, &[], &[])?;
-    assert_eq!(rt; status, Status::Done);
-    assert!(rt;
-        text.ends_with(
-            b"6 answer 1 0 2 3 2:a 2:b 1:c\n7 accepted 4\n8 accepted 5\n9 publishing\n9 published 1 3\n10 opened 1 0 3\n10 answer 1 0 3 2 1:c 1:d\n"
-        )
-    );
-    Ok(())
-}
+// A word is dropped, and hits are ranked.
+const DROPPED: &[u8] =
+    b"nodes 2\n1 put a red fox red\n1 put b red hen\n1 put c blue hen\n1 publish\n1 search 1 red OR hen\n1 drop red\n1 put d red owl\n1 publish\n1 search 1 red OR hen";
 
+// A replica that was not copied to; publishes of nothing, and of three operations that leave nothing; a settle; and longer scripts.
 #[test]
-fn nothing_to_publish(rt: HostRuntime) -> Result<(), Fail> {
-    let script = b"nodes 2\n1 put a x\n1 publish\n1 publish\n1 put b y\n1 publish\n";
-    let (status, text) = run(&rt, rt.alloc(), &[b"run"], script, &[], &[])?;
-    assert_eq!(rt; status, Status::Done);
-    assert!(rt; text.ends_with(b"4 refused none\n5 accepted 2\n6 publishing\n6 published 1 3\n"));
-    Ok(())
-}
-
-#[test]
-fn comments_are_skipped(rt: HostRuntime) -> Result<(), Fail> {
-    let script = b"# two\n nodes  2 \n\n   \n1 publish\n\t";
-    let (status, text) = run(&rt, rt.alloc(), &[b"run"], script, &[], &[])?;
-    assert_eq!(rt; status, Status::BadScript(LineNo(6), LineFault::Text));
-    assert!(rt; text.is_empty());
+fn publishes(rt: HostRuntime) -> Result<(), Fail> {
+    let rows: &[(&[u8], &[u8])] = &[
+        (
+            b"nodes 2\n1 put a x\n1 publish\n1 search 2 x",
+            b"4 opened 2 0 1\n4 answer 2 0 1 0\n",
+        ),
+        (
+            b"nodes 2\n1 put a x\n1 publish\n1 publish\n1 put b y\n1 publish\n",
+            b"4 refused none\n5 accepted 2\n6 publishing\n6 published 1 3\n",
+        ),
+        (
+            b"nodes 2\n1 put a one\n1 put a two\n1 delete a\n1 publish\n1 search 1 one OR two\n1 files 1\n",
+            b"5 published 1 2\n6 opened 1 0 2\n6 answer 1 0 2 0\n7 files 1\n",
+        ),
+        (
+            b"nodes 3\n1 put a x\n1 publish\n1 settle\n",
+            b"4 settling 2\n4 switched 2 2\n4 switched 3 2\n4 settled 2\n",
+        ),
+        (
+            ARTICLES,
+            b"7 published 1 2\n8 settling 2\n8 switched 2 2\n8 switched 3 2\n8 settled 2\n9 opened 2 0 2\n9 answer 2 0 2 2 1:art-1 1:art-2\n10 accepted 4\n11 accepted 5\n12 publishing\n12 published 1 3\n13 settling 3\n13 switched 2 3\n13 switched 3 3\n13 settled 3\n14 opened 3 0 3\n14 answer 3 0 3 1 1:art-1\n15 opened 3 0 3\n15 answer 3 0 3 1 1:art-2\n",
+        ),
+        (
+            DROPPED,
+            b"6 answer 1 0 2 3 2:a 2:b 1:c\n7 accepted 4\n8 accepted 5\n9 publishing\n9 published 1 3\n10 opened 1 0 3\n10 answer 1 0 3 2 1:c 1:d\n",
+        ),
+    ];
+    for (script, wanted) in rows {
+        let (status, text) = run(&rt, rt.alloc(), &[b"run"], script, &[], &[])?;
+        assert_eq!(rt; status, Status::Done);
+        assert!(rt; text.ends_with(wanted));
+    }
     Ok(())
 }
 
@@ -219,6 +234,13 @@ fn refused_lines(rt: HostRuntime) -> Result<(), Fail> {
             LineFault::Query(QueryFault::Syntax(7)),
         ),
         (b"nodes 2\n1 put a\t", 2, LineFault::Text),
+        (b"nodes 2\n1 drop", 2, LineFault::Count),
+        (b"nodes 2\n1 drop a-b", 2, LineFault::Range),
+        (
+            b"# two\n nodes  2 \n\n   \n1 publish\n\t",
+            6,
+            LineFault::Text,
+        ),
     ];
     for (script, line, cause) in rows {
         let (status, text) = run(&rt, rt.alloc(), &[b"run"], script, &[], &[])?;
@@ -384,34 +406,6 @@ fn merges(rt: HostRuntime) -> Result<(), Fail> {
         (
             NUMBERED_AGAIN,
             b"\n15 drained 1\n16 drained 1\n17 files 2\n18 drained 1\n19 files 2 _10005.docs _10005.post _10005.si\n20 drained 2\n21 publishing\n21 published 1 6\n22 copying 2 6\n22 switched 2 6\n22 copied 2 6\n23 files 2 _10004.docs _10004.post _10004.si _10005.docs _10005.post _10005.si\n",
-        ),
-    ];
-    for (script, wanted) in rows {
-        let (status, text) = run(&rt, rt.alloc(), &[b"run"], script, &[], &[])?;
-        assert_eq!(rt; status, Status::Done);
-        assert!(rt; text.ends_with(wanted));
-    }
-    Ok(())
-}
-
-// The primary of a merge crashes, and a replica keeps what it was given of it until the next generation merges.
-const FALLEN: &[u8] =
-    b"nodes 3\n1 put a x\n1 publish\n1 put b x\n1 publish\n1 settle\n1 merge 2\n1 drain 2\n1 files 2\n1 crash 1 0\n1 drain 9\n1 merge 2\n1 promote 3 auto\n1 files 2\n1 merge 2\n1 drain 1\n1 files 2\n1 drain 1\n1 files 2\n1 delete b\n1 publish\n1 drain 9\n1 publish\n1 search 3 x\n1 files 3\n1 copy 2\n1 files 2\n";
-
-// The node that is promoted was given files of the old primary's merge; a replica that comes back is no part of a merge that was begun.
-const PROMOTED: &[u8] =
-    b"nodes 3\n1 put a x\n1 publish\n1 put b x\n1 publish\n1 copy 2\n1 merge 2\n1 drain 2\n1 files 2\n1 crash 1 0\n1 promote 2 auto\n1 files 2\n1 merge 2\n1 drain 9\n1 publish\n1 crash 3 0\n1 put c x\n1 put d x\n1 publish\n1 put e x\n1 publish\n1 merge 2\n1 merge 2\n1 drain 1\n1 reopen 3\n1 drain 1\n1 publish\n1 settle\n1 files 3\n";
-
-#[test]
-fn merges_of_fallen_primaries(rt: HostRuntime) -> Result<(), Fail> {
-    let rows: &[(&[u8], &[u8])] = &[
-        (
-            FALLEN,
-            b"\n7 merging _10002\n8 drained 2\n9 files 2 _10000.docs _10000.post _10000.si _10001.docs _10001.post _10001.si _10002.docs _10002.post _10002.si\n10 crashed 1\n11 drained 0\n12 refused no-primary\n13 promoted 3 2 3 4\n14 files 2 _10000.docs _10000.post _10000.si _10001.docs _10001.post _10001.si _10002.docs _10002.post _10002.si\n15 merging _20000\n16 drained 1\n17 files 2 _10000.docs _10000.post _10000.si _10001.docs _10001.post _10001.si\n18 drained 1\n19 files 2 _10000.docs _10000.post _10000.si _10001.docs _10001.post _10001.si _20000.docs _20000.post _20000.si\n20 accepted 3\n21 publishing\n21 published 2 5\n22 drained 1\n23 publishing\n23 published 2 6\n24 opened 3 0 6\n24 answer 3 0 6 1 1:a\n25 files 3 _20000.docs _20000.post _20000.si _20000_1.liv\n26 copying 2 6\n26 switched 2 6\n26 copied 2 6\n27 files 2 _20000.docs _20000.post _20000.si _20000_1.liv\n",
-        ),
-        (
-            PROMOTED,
-            b"\n8 drained 2\n9 files 2 _10000.docs _10000.post _10000.si _10001.docs _10001.post _10001.si _10002.docs _10002.post _10002.si\n10 crashed 1\n11 promoted 2 2 3 4\n12 files 2 _10000.docs _10000.post _10000.si _10001.docs _10001.post _10001.si\n13 merging _20000\n14 drained 3\n15 publishing\n15 published 2 5\n16 crashed 3\n17 accepted 3\n18 accepted 4\n19 publishing\n19 published 2 6\n20 accepted 5\n21 publishing\n21 published 2 7\n22 merging _20003\n23 refused none\n24 drained 1\n25 reopened 3 1\n26 drained 1\n27 publishing\n27 published 2 8\n28 settling 8\n28 switched 3 8\n28 settled 8\n29 files 3 _20002.docs _20002.post _20002.si _20003.docs _20003.post _20003.si\n",
         ),
     ];
     for (script, wanted) in rows {
@@ -694,12 +688,12 @@ impl Gate for Overtakes {
 
 /// Holds the evaluation of line 6 until line 5 came to its first chunk, and that chunk until line 8 came to its evaluation.
 #[derive(Drop)]
-struct Crashes {
+struct CrashesNode {
     first: Meeting,
     second: Meeting,
 }
 
-impl Gate for Crashes {
+impl Gate for CrashesNode {
     fn pass(&self, place: Place) {
         match place {
             Place::Chunk(..) => {
@@ -748,7 +742,7 @@ fn copy_overtaken(rt: HostRuntime) -> Result<(), Fail> {
 
 #[test]
 fn copy_whose_node_crashes(rt: HostRuntime) -> Result<(), Fail> {
-    let gate = Crashes {
+    let gate = CrashesNode {
         first: Meeting::new(),
         second: Meeting::new(),
     };

@@ -9,8 +9,6 @@ mod listings;
 mod published;
 mod refusals;
 mod rules;
-#[cfg(test)]
-mod tests;
 
 pub use counting::operations;
 pub use documents::{

@@ -15,7 +15,7 @@ use Rattle.postings_plain.proofs.HitLaws.{rows_format, hits_from-append, fits_pa
 use Rattle.postings_plain.proofs.BlockLaws.{block_rows-is, block_count-more, skip_count-blocks, length-block, above_end, term_takes}
 use Rattle.postings_plain.proofs.CountedHits.{next_skip}
 use Rattle.postings_plain.proofs.KeptHits.{from_row-zero}
-use Rattle.postings_plain.proofs.Passing.{rows_at, was_read, is_read, Head, head_of, none_left, from_row-below, rows_ascend, all_from}
+use Rattle.postings_plain.proofs.Passing.{rows_at, was_read, is_read, Head, head_of, none_left, from_row-below, from_row-at, rows_ascend, all_from}
 
 -- ---- the block after a block
 

@@ -11,7 +11,7 @@ use Rattle.file_deleter.proofs.NameLemmas.{times-append}
 use Rattle.searcher_switch.specs.Searching.{searcher_names}
 use Rattle.searcher_switch.specs.Node.{IsWholeNode}
 use Rattle.searcher_switch.proofs.Carry.{node_lets_go, node_same_names, front_counted}
-use Rattle.primary_state.specs.declared.parts.Parts.{Parts}
+use Rattle.primary_state.specs.declared.parts.PrimaryParts.{PrimaryParts}
 use Rattle.primary_state.specs.declared.parts.Publish.{Publish}
 use Rattle.primary_state.specs.declared.states.Merging.{Merging}
 use Rattle.primary_state.specs.Held.{IsUnused}
@@ -25,7 +25,7 @@ use Rattle.primary_state.proofs.MergeLists.{names_split, loose_at, loose_without
 use Rattle.primary_merges.specs.MergeCalls.{loose_left, filled_left}
 use Rattle.primary_merges.proofs.Carrying.{standing_carried, writer_carried, searched_carried, merging_carried}
 
-module _ {D : Type 0} (cells : D → Cells) (p : Parts D) (is : IsPrimary cells p) (seg : SegNo) (m : Merging) (found : merge_of seg.0 p.merges ≡ Some m) where
+module _ {D : Type 0} (cells : D → Cells) (p : PrimaryParts D) (is : IsPrimary cells p) (seg : SegNo) (m : Merging) (found : merge_of seg.0 p.merges ≡ Some m) where
   abbrev left : List Merging
   left = merges_without seg.0 p.merges
 
@@ -82,7 +82,7 @@ module _ {D : Type 0} (cells : D → Cells) (p : Parts D) (is : IsPrimary cells 
   names_counted = front_counted (cells p.dir) p.files m.names left_names p.commits node_left
 
   module _ (dir : D) (files : Holdings) (lets : LetsGo m.names p.files files (cells p.dir) (cells dir)) where
-    abbrev after : Parts D
+    abbrev after : PrimaryParts D
     after = record p { dir = dir; files = files; merges = left }
 
     node_now : IsWholeNode (cells dir) files left_names p.commits
@@ -125,7 +125,7 @@ module _ {D : Type 0} (cells : D → Cells) (p : Parts D) (is : IsPrimary cells 
     abandon_no_new = record { each = λ q zero. omega (arith, zero, lets.counts q) }
 
 -- ---- a call that is refused on its way, where each file is counted as before
-module _ {D : Type 0} (cells : D → Cells) (p m n : Parts D) (same : (q : Name) → count_of m.files q ≡ count_of p.files q) where
+module _ {D : Type 0} (cells : D → Cells) (p m n : PrimaryParts D) (same : (q : Name) → count_of m.files q ≡ count_of p.files q) where
   pub refused_no_new : HoldsNoNew m n → HoldsNoNew p n
   refused_no_new h = record { each = λ q zero. h.each q (same q ∙ zero) }
 

@@ -15,7 +15,7 @@ use Rattle.segment_steps.specs.declared.starting.MergeStart.{MergeStart}
 use Rattle.segment_steps.specs.Starting.{IsStart}
 use Rattle.segment_steps.specs.CutOver.{IsMergeOf}
 use Rattle.segment_steps.proofs.MergeStarts.{start_is_merge, start_fits, start_apart}
-use Rattle.primary_state.specs.declared.parts.Parts.{Parts}
+use Rattle.primary_state.specs.declared.parts.PrimaryParts.{PrimaryParts}
 use Rattle.primary_state.specs.declared.states.Merging.{Merging}
 use Rattle.primary_state.specs.Held.{drawn_to}
 use Rattle.primary_state.specs.Merges.{merge_inputs}
@@ -29,7 +29,7 @@ use Rattle.primary_merges.proofs.Begun.{inputs_named, inputs_there, primary_begi
 pub same_task : (t : MergeTask) (inputs : List Shown) (live : List (List Bool)) → inputs ≡ t.inputs → live ≡ t.live → ◌≡◌ {A = MergeTask} (record { seg = t.seg; inputs = inputs; live = live }) t
 same_task t inputs live a b = ap (λ (xs : List Shown). record { seg = t.seg; inputs = xs; live = live }) a ∙ ap (λ (ls : List (List Bool)). record { seg = t.seg; inputs = t.inputs; live = ls }) b
 
-module _ {D : Type 0} (cells : D → Cells) (p : Parts D) (is : IsPrimary cells p) (factor : ℕ) (two : 2 ≤ factor) (start : MergeStart)
+module _ {D : Type 0} (cells : D → Cells) (p : PrimaryParts D) (is : IsPrimary cells p) (factor : ℕ) (two : 2 ≤ factor) (start : MergeStart)
     (h : IsStart (record { 0 = drawn_to p.infos }) factor (merge_inputs p.merges) p.infos.segs p.segs start) (more : p.infos.counter < 1679616) where
   abbrev number : SegNo
   number = record { 0 = drawn_to p.infos }
@@ -62,7 +62,7 @@ module _ {D : Type 0} (cells : D → Cells) (p : Parts D) (is : IsPrimary cells 
     other = start_apart number factor (merge_inputs p.merges) p.infos.segs p.segs start h
 
     module _ (files : Holdings) (holds : HoldsFiles names p.files files (cells p.dir)) where
-      abbrev after : Parts D
+      abbrev after : PrimaryParts D
       after = record p { files = files; infos = counted_on p.infos; merges = p.merges ++ merging ∷ [] }
 
       pub start_begins : IsPrimary cells after

@@ -18,7 +18,7 @@ use Rattle.segment_steps.specs.CutOver.{IsMergeOf}
 use Rattle.searcher_switch.specs.Searching.{searcher_names}
 use Rattle.searcher_switch.specs.Node.{IsWholeNode}
 use Rattle.searcher_switch.proofs.Carry.{node_kept, node_there, nothing_written}
-use Rattle.primary_state.specs.declared.parts.Parts.{Parts}
+use Rattle.primary_state.specs.declared.parts.PrimaryParts.{PrimaryParts}
 use Rattle.primary_state.specs.declared.parts.Publish.{Publish}
 use Rattle.primary_state.specs.declared.states.Merging.{Merging}
 use Rattle.primary_state.specs.Held.{IsUnused, drawn_to}
@@ -45,13 +45,13 @@ chosen_in test (r ∷ rs) q c = by (test r) (chosen_in test rs q) c
     ]
     by false more d = Contains-append_right (files_of_segment r) (flat_map files_of_segment rs) q (more d)
 
-pub inputs_named : {D : Type 0} (cells : D → Cells) (p : Parts D) → IsPrimary cells p → (inputs : List SegNo) (names : List Name) → AreFilesOf (record p.infos { segs = records_in inputs p.infos.segs }) names
+pub inputs_named : {D : Type 0} (cells : D → Cells) (p : PrimaryParts D) → IsPrimary cells p → (inputs : List SegNo) (names : List Name) → AreFilesOf (record p.infos { segs = records_in inputs p.infos.segs }) names
     → (q : Name) → 0 < times names q → 0 < times p.names q
 inputs_named cells p is inputs names are q some = named_times p.infos p.segs p.names (reads_of (cells p.dir)) is.writer q
     (chosen_in (λ (r : SegRecord). list_any (λ (seg : SegNo). seg.0 == r.seg.0) inputs) p.infos.segs q ((are.named q).0 (named_of names q some)))
 
 -- they are there
-pub inputs_there : {D : Type 0} (cells : D → Cells) (p : Parts D) → IsPrimary cells p → (names : List Name) → ((q : Name) → 0 < times names q → 0 < times p.names q) → AreThere (cells p.dir) names
+pub inputs_there : {D : Type 0} (cells : D → Cells) (p : PrimaryParts D) → IsPrimary cells p → (names : List Name) → ((q : Name) → 0 < times names q → 0 < times p.names q) → AreThere (cells p.dir) names
 inputs_there cells p is names named = node_there (cells p.dir) p.files (primary_names p) names p.commits is.node (λ q none. by q none (cases_lt 0 (times names q)))
   where
     by : (q : Name) → times (primary_names p) q ≡ 0 → (0 < times names q) ⊎ (times names q ≤ 0) → times names q ≡ 0
@@ -77,14 +77,14 @@ all_others m held (x ∷ ms) below within other = (
     by n there false e = e
 
 -- ---- all
-module _ {D : Type 0} (cells : D → Cells) (p : Parts D) (is : IsPrimary cells p) (m : Merging) (more : p.infos.counter < 1679616) (number : m.task.seg.0 ≡ drawn_to p.infos) (none : m.merged ≡ None)
+module _ {D : Type 0} (cells : D → Cells) (p : PrimaryParts D) (is : IsPrimary cells p) (m : Merging) (more : p.infos.counter < 1679616) (number : m.task.seg.0 ≡ drawn_to p.infos) (none : m.merged ≡ None)
     (flight : IsMergeOf (zip p.infos.segs p.segs) m.inputs (docs_by_input m.task.inputs) m.task.live)
     (other : (n : ℕ) → list_any (λ (seg : SegNo). seg.0 == n) m.inputs ≡ true → list_any (λ (seg : SegNo). seg.0 == n) (merge_inputs p.merges) ≡ false)
     (named : (q : Name) → 0 < times m.names q → 0 < times p.names q) (files : Holdings) (holds : HoldsFiles m.names p.files files (cells p.dir)) where
   abbrev all : List Merging
   all = p.merges ++ m ∷ []
 
-  abbrev after : Parts D
+  abbrev after : PrimaryParts D
   after = record p { files = files; infos = counted_on p.infos; merges = all }
 
   names_now : (q : Name) → times (primary_names after) q ≡ times (primary_names p) q + times m.names q

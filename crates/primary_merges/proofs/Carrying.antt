@@ -7,7 +7,7 @@ use Rattle.searcher_switch.specs.Node.{IsWholeNode}
 use Rattle.searcher_switch.specs.Standing.{IsStanding}
 use Rattle.searcher_switch.proofs.Standing.{standing_kept}
 use Rattle.searcher_switch.specs.Searching.{searcher_names}
-use Rattle.primary_state.specs.declared.parts.Parts.{Parts}
+use Rattle.primary_state.specs.declared.parts.PrimaryParts.{PrimaryParts}
 use Rattle.primary_state.specs.declared.states.Out.{Out}
 use Rattle.primary_state.specs.declared.states.Merging.{Merging}
 use Rattle.primary_state.specs.Held.{IsHeld}
@@ -18,7 +18,7 @@ use Rattle.primary_state.proofs.Holding.{held_kept}
 use Rattle.primary_state.proofs.Keeping.{writer_counted, point_counted, book_counted, merges_counted}
 use Rattle.primary_state.proofs.MergeLists.{merging_kept}
 
-module _ {D : Type 0} (cells : D → Cells) (p : Parts D) (is : IsPrimary cells p) (dir : D) (files : Holdings) (states : List Out) (merges : List Merging)
+module _ {D : Type 0} (cells : D → Cells) (p : PrimaryParts D) (is : IsPrimary cells p) (dir : D) (files : Holdings) (states : List Out) (merges : List Merging)
     (node : IsWholeNode (cells dir) files (searcher_names p.searchers ++ (p.names ++ (state_names states ++ merge_names merges))) p.commits)
     (reads : (q : Name) → 0 < count_of p.files q → 0 < count_of files q → (cells dir q).now ≡ (cells p.dir q).now) where
   pub standing_carried : IsStanding (reads_of (cells dir)) p.commits

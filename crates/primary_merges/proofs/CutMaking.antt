@@ -21,7 +21,7 @@ use Rattle.segment_steps.specs.Next.{IsBounded, IsBuiltWork}
 use Rattle.segment_steps.specs.CutOver.{Part, inputs_in, lives_of}
 use Rattle.segment_steps.proofs.AfterPublish.{new_fine}
 use Rattle.copy_state.specs.States.{AreShortNames}
-use Rattle.primary_state.specs.declared.parts.Parts.{Parts}
+use Rattle.primary_state.specs.declared.parts.PrimaryParts.{PrimaryParts}
 use Rattle.primary_state.specs.declared.states.Merging.{Merging}
 use Rattle.primary_state.specs.Held.{drawn_to}
 use Rattle.primary_state.specs.Merges.{merge_of, IsMade, IsMadeBy, IsMerging}
@@ -66,7 +66,7 @@ both_short a b names h s t = record {
 }
 
 -- ---- what a cut-over asks
-module _ {D : Type 0} (cells : D → Cells) (p : Parts D) (is : IsPrimary cells p) (seg : SegNo) (m : Merging) (found : merge_of seg.0 p.merges ≡ Some m) (merged : Merged) (is_merged : m.merged ≡ Some merged) where
+module _ {D : Type 0} (cells : D → Cells) (p : PrimaryParts D) (is : IsPrimary cells p) (seg : SegNo) (m : Merging) (found : merge_of seg.0 p.merges ≡ Some m) (merged : Merged) (is_merged : m.merged ≡ Some merged) where
   mine : IsMerging (reads_of (cells p.dir)) p.infos.segs p.segs m
   mine = all_at (IsMerging (reads_of (cells p.dir)) p.infos.segs p.segs) seg.0 p.merges m is.merging found
 

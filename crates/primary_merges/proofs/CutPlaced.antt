@@ -24,7 +24,7 @@ use Rattle.searcher_switch.specs.Appearing.{AppearsOnly}
 use Rattle.searcher_switch.proofs.Appearing.{keeps_only}
 use Rattle.searcher_switch.proofs.Carry.{node_gathers, node_lets_go, node_same_names, node_same_counts, node_there, nothing_written, unheld_apart, front_counted}
 use Rattle.searcher_switch.proofs.Standing.{segments_along, standing_kept}
-use Rattle.primary_state.specs.declared.parts.Parts.{Parts}
+use Rattle.primary_state.specs.declared.parts.PrimaryParts.{PrimaryParts}
 use Rattle.primary_state.specs.declared.parts.Publish.{Publish}
 use Rattle.primary_state.specs.declared.states.Merging.{Merging}
 use Rattle.primary_state.specs.declared.states.Out.{Out}
@@ -44,7 +44,7 @@ use Rattle.primary_merges.specs.CutOverCalls.{infos_of, IsCutReady, HasWrittenCu
 use Rattle.primary_merges.proofs.CutSteps.{is_made, cut_spelled, cut_numbered, cut_once, cut_unwritten, cut_own, cut_names, cut_rest, cut_stands, cut_documents, cut_keeps}
 use Rattle.segment_steps.specs.declared.next.NextSegments.{NextSegments}
 
-module _ {D : Type 0} (cells : D → Cells) (p : Parts D) (is : IsPrimary cells p) (seg : SegNo) (r : CutReady) (ready : IsCutReady p seg r) where
+module _ {D : Type 0} (cells : D → Cells) (p : PrimaryParts D) (is : IsPrimary cells p) (seg : SegNo) (r : CutReady) (ready : IsCutReady p seg r) where
   abbrev made : NextSegments
   made = record { records = r.infos.segs; segs = r.segs; files = r.files }
 
@@ -138,7 +138,7 @@ module _ {D : Type 0} (cells : D → Cells) (p : Parts D) (is : IsPrimary cells 
 
     -- the hold is done
     module _ (files : Holdings) (holds : HoldsFiles r.names mid files (cells dir)) (reads_so : All (ReadsSo (cells dir)) r.files) (calm : p.publish ≡ None) where
-      abbrev after : Parts D
+      abbrev after : PrimaryParts D
       after = record p { dir = dir; files = files }
 
       merged_reads : All (ReadsSo (cells dir)) ready.merged.files.files
@@ -202,7 +202,7 @@ module _ {D : Type 0} (cells : D → Cells) (p : Parts D) (is : IsPrimary cells 
       }
 
 -- ---- the cut-over is put in place
-module _ {D : Type 0} (cells : D → Cells) (p : Parts D) (seg : SegNo) (r : CutReady) (h : HasWrittenCut cells p seg r) where
+module _ {D : Type 0} (cells : D → Cells) (p : PrimaryParts D) (seg : SegNo) (r : CutReady) (h : HasWrittenCut cells p seg r) where
   abbrev left : List Merging
   left = merges_without seg.0 p.merges
 
@@ -275,7 +275,7 @@ module _ {D : Type 0} (cells : D → Cells) (p : Parts D) (seg : SegNo) (r : Cut
     }
 
 -- ---- over the whole call
-module _ {D : Type 0} (cells : D → Cells) (p n : Parts D) (is : IsPrimary cells p) (now : IsPrimary cells n) (seg : SegNo) (r : CutReady) (ready : IsCutReady p seg r)
+module _ {D : Type 0} (cells : D → Cells) (p n : PrimaryParts D) (is : IsPrimary cells p) (now : IsPrimary cells n) (seg : SegNo) (r : CutReady) (ready : IsCutReady p seg r)
     (infos : n.infos ≡ r.infos) (segs : n.segs ≡ r.segs) (names : n.names ≡ r.names) (merges : n.merges ≡ merges_without seg.0 p.merges)
     (publish : n.publish ≡ p.publish) (searchers : n.searchers ≡ p.searchers) (states : n.states ≡ p.states) (commits : n.commits ≡ p.commits) where
   pub cut_draws : DrawsOnly p n
@@ -313,12 +313,12 @@ module _ {D : Type 0} (cells : D → Cells) (p n : Parts D) (is : IsPrimary cell
           absurd (omega (arith, zero, some, none, new, named, a, b, c, book, split cells p is seg r ready q, is.node.counts q, now.node.counts q, names_split seg.0 p.merges ready.m q ready.found))
 
 -- ---- a write that is refused changes the directory and the counts alone
-module _ {D : Type 0} (p n : Parts D) (same : n ≡ record p { dir = n.dir; files = n.files }) where
+module _ {D : Type 0} (p n : PrimaryParts D) (same : n ≡ record p { dir = n.dir; files = n.files }) where
   pub unmerged : n ≡ record p { dir = n.dir; files = n.files; merges = n.merges }
-  unmerged = same ∙ ap (λ (ms : List Merging). record p { dir = n.dir; files = n.files; merges = ms }) (sym (ap (λ (x : Parts D). x.merges) same))
+  unmerged = same ∙ ap (λ (ms : List Merging). record p { dir = n.dir; files = n.files; merges = ms }) (sym (ap (λ (x : PrimaryParts D). x.merges) same))
 
   pub unplaced : n ≡ record p { dir = n.dir; files = n.files; infos = n.infos; segs = n.segs; names = n.names; merges = n.merges; has_cut_over = n.has_cut_over; completed = n.completed }
   unplaced = all n same
     where
-      all : (x : Parts D) → x ≡ record p { dir = n.dir; files = n.files } → x ≡ record p { dir = n.dir; files = n.files; infos = x.infos; segs = x.segs; names = x.names; merges = x.merges; has_cut_over = x.has_cut_over; completed = x.completed }
-      all x e = subst (λ (y : Parts D). y ≡ record p { dir = n.dir; files = n.files; infos = y.infos; segs = y.segs; names = y.names; merges = y.merges; has_cut_over = y.has_cut_over; completed = y.completed }) (sym e) refl
+      all : (x : PrimaryParts D) → x ≡ record p { dir = n.dir; files = n.files } → x ≡ record p { dir = n.dir; files = n.files; infos = x.infos; segs = x.segs; names = x.names; merges = x.merges; has_cut_over = x.has_cut_over; completed = x.completed }
+      all x e = subst (λ (y : PrimaryParts D). y ≡ record p { dir = n.dir; files = n.files; infos = y.infos; segs = y.segs; names = y.names; merges = y.merges; has_cut_over = y.has_cut_over; completed = y.completed }) (sym e) refl

@@ -32,7 +32,7 @@ use Rattle.segment_steps.proofs.CuttingOver.{Each, each_in_place, now_in, cut_ov
 use Rattle.segment_steps.proofs.AfterPublish.{IsFine}
 use Rattle.segment_steps.proofs.AfterCutOver.{cut_fine, cut_named}
 use Rattle.segment_steps.proofs.CutNumbers.{cut_apart, cut_few, IsOneLiveFile, cut_written}
-use Rattle.primary_state.specs.declared.parts.Parts.{Parts}
+use Rattle.primary_state.specs.declared.parts.PrimaryParts.{PrimaryParts}
 use Rattle.primary_state.specs.declared.states.Merging.{Merging}
 use Rattle.primary_state.specs.Held.{IsUndrawn, IsUnused, part, live, next_live, IsDrawnRecord, IsOwnFile, AreNumbered, drawn_to}
 use Rattle.primary_state.specs.Merges.{merge_of, merges_without, IsMade, IsMadeBy, IsMerging, AreOtherMerges}
@@ -94,7 +94,7 @@ not_among names q never = by (is_among names q) refl
     by false e = e
 
 -- ---- all
-module _ {D : Type 0} (cells : D → Cells) (p : Parts D) (is : IsPrimary cells p) (seg : SegNo) (m : Merging) (found : merge_of seg.0 p.merges ≡ Some m) (merged : Merged) (is_merged : m.merged ≡ Some merged)
+module _ {D : Type 0} (cells : D → Cells) (p : PrimaryParts D) (is : IsPrimary cells p) (seg : SegNo) (m : Merging) (found : merge_of seg.0 p.merges ≡ Some m) (merged : Merged) (is_merged : m.merged ≡ Some merged)
     (shown : Shown) (back : IsReadBack merged.files shown) (made : NextSegments) (cut : IsCutOf p.infos.generation.0 (zip p.infos.segs p.segs) m.inputs merged shown made) where
   abbrev g : ℕ
   g = p.infos.generation.0

@@ -12,7 +12,7 @@ use Rattle.copy_state.specs.Meta.{IsMetaOf}
 use Rattle.copy_state.specs.States.{meta_names, AreShortNames}
 use Rattle.seg_merge.specs.declared.task.Merged.{Merged}
 use Rattle.seg_merge.specs.Merging.{IsMergedOf}
-use Rattle.primary_state.specs.declared.parts.Parts.{Parts}
+use Rattle.primary_state.specs.declared.parts.PrimaryParts.{PrimaryParts}
 use Rattle.primary_state.specs.declared.states.Merging.{Merging}
 use Rattle.primary_state.specs.Cut.{last_number}
 use Rattle.primary_state.specs.Merges.{merge_of, merge_place, merges_with}
@@ -36,7 +36,7 @@ told_metas files i file metas more meta lt is e of sofar reads all = subst (All 
     (All-push (IsMetaIn reads) metas (file.0, meta) (sofar reads all) (record { bytes = file.1; there = subst (λ (f : File). reads f.0 ≡ Some f.1) (sym is) (all i file lt); meta = of }))
 
 -- ---- all that is made before the first write
-pub state_ready_of : {D : Type 0} (p : Parts D) (merged : Merged) (m : Merging) → merge_of merged.files.seg.0 p.merges ≡ Some m → m.merged ≡ None → IsMergedOf m.task merged → AreShortNames p.completed → (written names held : List Name)
+pub state_ready_of : {D : Type 0} (p : PrimaryParts D) (merged : Merged) (m : Merging) → merge_of merged.files.seg.0 p.merges ≡ Some m → m.merged ≡ None → IsMergedOf m.task merged → AreShortNames p.completed → (written names held : List Name)
     → written ≡ names_of merged.files.files → names ≡ m.names ++ written → held ≡ written → (completed : List Name) → completed ≡ p.completed → (infos : List ℕ) → IsInfosFile p.point_infos infos
     → (metas : List Meta) → meta_names metas ≡ names_of merged.files.files → ((reads : Name → Content) → All (λ (f : File). reads f.0 ≡ Some f.1) merged.files.files → All (IsMetaIn reads) metas)
     → AreShortNames (names_of merged.files.files) → (generation : ℕ) → generation ≡ last_number p.commits

@@ -17,7 +17,7 @@ use Rattle.searcher_switch.specs.Node.{IsWholeNode, IsApart, HasNoPending, AddsO
 use Rattle.searcher_switch.specs.Appearing.{AppearsOnly}
 use Rattle.searcher_switch.proofs.Appearing.{keeps_only}
 use Rattle.searcher_switch.proofs.Carry.{node_kept, node_gathers, node_lets_go, node_same_counts, node_there, nothing_written, unheld_apart}
-use Rattle.primary_state.specs.declared.parts.Parts.{Parts}
+use Rattle.primary_state.specs.declared.parts.PrimaryParts.{PrimaryParts}
 use Rattle.primary_state.specs.declared.states.Out.{Out}
 use Rattle.primary_state.specs.declared.states.Merging.{Merging}
 use Rattle.primary_state.specs.Held.{IsUnused, part, live, next_live, IsOwnFile, IsDrawnRecord, drawn_to}
@@ -33,7 +33,7 @@ use Rattle.primary_state.proofs.MergeLists.{all_at, loose_at, unfilled_at, fille
 use Rattle.primary_merges.proofs.MergedFiles.{part_names, part_among, parts_once, merged_names}
 use Rattle.primary_merges.proofs.Carrying.{standing_carried, writer_carried, searched_carried, merging_carried}
 
-module _ {D : Type 0} (cells : D → Cells) (p : Parts D) (is : IsPrimary cells p) (merged : Merged) (m : Merging) (found : merge_of merged.files.seg.0 p.merges ≡ Some m) (none : m.merged ≡ None) (of : IsMergedOf m.task merged) where
+module _ {D : Type 0} (cells : D → Cells) (p : PrimaryParts D) (is : IsPrimary cells p) (merged : Merged) (m : Merging) (found : merge_of merged.files.seg.0 p.merges ≡ Some m) (none : m.merged ≡ None) (of : IsMergedOf m.task merged) where
   abbrev n : ℕ
   n = merged.files.seg.0
 
@@ -117,7 +117,7 @@ module _ {D : Type 0} (cells : D → Cells) (p : Parts D) (is : IsPrimary cells 
       abbrev merges : List Merging
       merges = merges_with merged names p.merges
 
-      abbrev after : Parts D
+      abbrev after : PrimaryParts D
       after = record p { dir = dir; files = files; states = states; merges = merges }
 
       abbrev now_names : List Name

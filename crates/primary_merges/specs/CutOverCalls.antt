@@ -20,7 +20,7 @@ use Rattle.segment_steps.specs.CutOver.{IsCutOf}
 use Rattle.searcher_switch.specs.Node.{IsWholeNode}
 use Rattle.searcher_switch.specs.Standing.{IsStanding}
 use Rattle.copy_state.specs.States.{AreShortNames}
-use Rattle.primary_state.specs.declared.parts.Parts.{Parts}
+use Rattle.primary_state.specs.declared.parts.PrimaryParts.{PrimaryParts}
 use Rattle.primary_state.specs.declared.states.Merging.{Merging}
 use Rattle.primary_state.specs.Held.{IsHeld, AreUndrawn, AreNumbered}
 use Rattle.primary_state.specs.Merges.{merge_of, merges_without, IsMerging, AreApartMerges}
@@ -45,12 +45,12 @@ AreWrittenOf (Some merged) names = names ≡ names_of merged.files.files
 
 module _ {D : Type 0} where
   -- a merge of this number is in flight, and its files are written
-  abbrev pub IsFilledMerge : Parts D → SegNo → Type 0
+  abbrev pub IsFilledMerge : PrimaryParts D → SegNo → Type 0
   IsFilledMerge p seg = IsSomeAnd (merge_of seg.0 p.merges) (λ m. IsSome m.merged)
 
   -- A merge was cut over: the merged segment is in the place of its inputs, with the rows of it that are live now, or none where none is. The
   -- version is as before; the merge has ended, and its files are listed as completed.
-  pub record IsCutOver (seg : SegNo) (old new : Parts D) : Type 0 where
+  pub record IsCutOver (seg : SegNo) (old new : PrimaryParts D) : Type 0 where
     pub m : Merging
     pub found : merge_of seg.0 old.merges ≡ Some m
     pub merged : Merged
@@ -66,11 +66,11 @@ module _ {D : Type 0} where
     pub completed : AreInBoth old.completed (names_of merged.files.files) new.completed
 
   -- the writer stands for the documents that it stood for
-  abbrev pub KeepsDocuments : Parts D → Parts D → Type 0
+  abbrev pub KeepsDocuments : PrimaryParts D → PrimaryParts D → Type 0
   KeepsDocuments old new = (docs : List Doc) → AreSegmentsOf docs old.segs → AreSegmentsOf docs new.segs
 
   -- the segments after the cut-over of a merge whose files are written
-  pub record IsCutMade (p : Parts D) (seg : SegNo) (made : NextSegments) : Type 0 where
+  pub record IsCutMade (p : PrimaryParts D) (seg : SegNo) (made : NextSegments) : Type 0 where
     pub m : Merging
     pub found : merge_of seg.0 p.merges ≡ Some m
     pub merged : Merged
@@ -80,7 +80,7 @@ module _ {D : Type 0} where
     pub cut : IsCutOf p.infos.generation.0 (zip p.infos.segs p.segs) m.inputs merged shown made
 
   -- all that a cut-over needs memory for
-  pub record IsCutReady (p : Parts D) (seg : SegNo) (r : CutReady) : Type 0 where
+  pub record IsCutReady (p : PrimaryParts D) (seg : SegNo) (r : CutReady) : Type 0 where
     pub m : Merging
     pub found : merge_of seg.0 p.merges ≡ Some m
     pub merged : Merged
@@ -97,7 +97,7 @@ module _ {D : Type 0} where
     pub short : AreShortNames r.completed
 
   -- the live file is written and in hand, and the files of the new infos are counted
-  pub record HasWrittenCut (cells : D → Cells) (p : Parts D) (seg : SegNo) (r : CutReady) : Type 0 where
+  pub record HasWrittenCut (cells : D → Cells) (p : PrimaryParts D) (seg : SegNo) (r : CutReady) : Type 0 where
     pub ready : IsCutReady p seg r
     pub node : IsWholeNode (cells p.dir) p.files (r.names ++ (r.written ++ primary_names p)) p.commits
     pub standing : IsStanding (reads_of (cells p.dir)) p.commits

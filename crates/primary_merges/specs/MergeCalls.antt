@@ -6,7 +6,7 @@ use Rattle.disk_model.specs.Disk.{Name, Content}
 use Rattle.seg_merge.specs.declared.task.Merged.{Merged}
 use Rattle.seg_merge.specs.Merging.{IsMergedOf}
 use Rattle.copy_state.specs.States.{IsCopyState}
-use Rattle.primary_state.specs.declared.parts.Parts.{Parts}
+use Rattle.primary_state.specs.declared.parts.PrimaryParts.{PrimaryParts}
 use Rattle.primary_state.specs.declared.states.Merging.{Merging}
 use Rattle.primary_state.specs.Cut.{last_number}
 use Rattle.primary_state.specs.States.{IsStateOf, out_of}
@@ -17,17 +17,17 @@ use Rattle.primary_merges.specs.declared.readying.StateReady.{StateReady}
 
 module _ {D : Type 0} where
   -- the merged segment was made of the task of a merge in flight, of which nothing was made yet
-  abbrev pub IsMadeFor : Parts D → Merged → Type 0
+  abbrev pub IsMadeFor : PrimaryParts D → Merged → Type 0
   IsMadeFor p merged = IsSomeAnd (merge_of merged.files.seg.0 p.merges) (λ m. (m.merged ≡ None) × IsMergedOf m.task merged)
 
   -- what was made of the merge is noted, and it holds the files that were written
-  pub record IsReadied (merged : Merged) (old new : Parts D) : Type 0 where
+  pub record IsReadied (merged : Merged) (old new : PrimaryParts D) : Type 0 where
     pub m : Merging
     pub found : merge_of merged.files.seg.0 old.merges ≡ Some m
     pub merges : new.merges ≡ merges_with merged (m.names ++ names_of merged.files.files) old.merges
 
   -- the lists that are made before the files of a merge are written
-  pub record IsStateReady (p : Parts D) (merged : Merged) (r : StateReady) : Type 0 where
+  pub record IsStateReady (p : PrimaryParts D) (merged : Merged) (r : StateReady) : Type 0 where
     pub m : Merging
     pub found : merge_of merged.files.seg.0 p.merges ≡ Some m
     pub unmade : m.merged ≡ None
@@ -40,8 +40,8 @@ module _ {D : Type 0} where
     pub out : r.out ≡ out_of r.state
 
   -- the numbers that are drawn and not there yet without this merge, and those of them whose parts are written
-  abbrev pub loose_left : Parts D → SegNo → List ℕ
+  abbrev pub loose_left : PrimaryParts D → SegNo → List ℕ
   loose_left p seg = publish_loose p.publish ++ merge_loose (merges_without seg.0 p.merges)
 
-  abbrev pub filled_left : Parts D → SegNo → List ℕ
+  abbrev pub filled_left : PrimaryParts D → SegNo → List ℕ
   filled_left p seg = merge_filled (merges_without seg.0 p.merges)

@@ -11,7 +11,7 @@ use Rattle.seg_merge.specs.declared.task.MergeTask.{MergeTask}
 use Rattle.seg_merge.specs.Merging.{HasAsManyRows, all_live_docs, docs_by_input}
 use Rattle.segment_steps.specs.declared.starting.MergeStart.{MergeStart}
 use Rattle.segment_steps.specs.Starting.{size_by, IsStart}
-use Rattle.primary_state.specs.declared.parts.Parts.{Parts}
+use Rattle.primary_state.specs.declared.parts.PrimaryParts.{PrimaryParts}
 use Rattle.primary_state.specs.declared.parts.PublishFault.{PublishFault}
 use Rattle.primary_state.specs.declared.parts.PublishFault.TheVariants.{Memory, NamesSpent, TooManySegments}
 use Rattle.primary_state.specs.declared.states.Merging.{Merging}
@@ -31,15 +31,15 @@ pub record IsFitTask (task : MergeTask) : Type 0 where
 
 module _ {D : Type 0} where
   -- the sizes of the writer's segments, of which a merge is chosen
-  abbrev pub merge_sizes : Parts D → List (Option ℕ)
+  abbrev pub merge_sizes : PrimaryParts D → List (Option ℕ)
   merge_sizes p = map (size_by (merge_inputs p.merges)) p.infos.segs
 
   -- the merge that was chosen, under the next number
-  abbrev pub IsChosen : ℕ → Parts D → MergeStart → Type 0
+  abbrev pub IsChosen : ℕ → PrimaryParts D → MergeStart → Type 0
   IsChosen factor p start = IsStart (record { 0 = drawn_to p.infos }) factor (merge_inputs p.merges) p.infos.segs p.segs start
 
   -- A merge that starts: its inputs are the first neighbours that are chosen; its number is drawn, and the files of its inputs are held.
-  pub record StartsMerge (factor : ℕ) (old : Parts D) (task : MergeTask) (new : Parts D) : Type 0 where
+  pub record StartsMerge (factor : ℕ) (old : PrimaryParts D) (task : MergeTask) (new : PrimaryParts D) : Type 0 where
     pub merging : Merging
     pub start : IsChosen factor old (record { task = task; inputs = merging.inputs })
     pub more : old.infos.counter < segments_of_generation
@@ -50,7 +50,7 @@ module _ {D : Type 0} where
 
   -- What is answered where a merge is asked for: none where no neighbours can be chosen, spent names where some can and the generation has
   -- drawn all numbers, and else a merge starts. Where none starts nothing changes.
-  abbrev pub AnswersMerge : ℕ → Parts D → Parts D → Result (Option MergeTask) PublishFault → Type 0
+  abbrev pub AnswersMerge : ℕ → PrimaryParts D → PrimaryParts D → Result (Option MergeTask) PublishFault → Type 0
   AnswersMerge factor old new (Ok None) = HasNoRange factor (merge_sizes old) × (new ≡ old)
   AnswersMerge factor old new (Ok (Some task)) = StartsMerge factor old task new
   AnswersMerge factor old new (Err Memory) = new ≡ old

@@ -16,7 +16,7 @@ use bytes::Bytes;
 use disk_model::{Dir, DirFault};
 use file_names::FileName;
 use nrt_base::{List, NoMemory, SegNo};
-use primary_state::{Merging, Parts, PrimaryFault, joined, names_in, write_all};
+use primary_state::{Merging, PrimaryFault, PrimaryParts, joined, names_in, write_all};
 use seg_reader::Segment;
 use segment_infos::{Infos, files_of};
 use segment_steps::{NextSegments, cut_over};
@@ -48,7 +48,7 @@ fn ascending(alloc: Global, a: &[FileName], b: &[FileName]) -> Result<List<FileN
 // The segments after the cut-over of a merge whose files are written.
 fn segments_after<D: Dir>(
     alloc: Global,
-    parts: &Parts<D>,
+    parts: &PrimaryParts<D>,
     seg: SegNo,
 ) -> Result<NextSegments, NoMemory>
     requires whole { IsPrimary D.cells parts.now }
@@ -85,7 +85,7 @@ fn names_written(alloc: Global, merging: &Merging) -> Result<List<FileName>, NoM
 }
 
 // All that a cut-over needs memory for.
-fn prepare<D: Dir>(alloc: Global, parts: &Parts<D>, seg: SegNo) -> Result<CutReady, NoMemory>
+fn prepare<D: Dir>(alloc: Global, parts: &PrimaryParts<D>, seg: SegNo) -> Result<CutReady, NoMemory>
     requires whole { IsPrimary D.cells parts.now }
     requires ready { IsFilledMerge parts.now seg }
     ensures { IfOk result (IsCutReady parts.now seg) }
@@ -123,7 +123,7 @@ fn prepare<D: Dir>(alloc: Global, parts: &Parts<D>, seg: SegNo) -> Result<CutRea
 // Writes the live file, where some row died, and counts the files of the new infos.
 fn write<D: Dir>(
     alloc: Global,
-    parts: &mut Parts<D>,
+    parts: &mut PrimaryParts<D>,
     seg: SegNo,
     ready: &CutReady,
 ) -> Result<(), DirFault>
@@ -166,7 +166,7 @@ fn write<D: Dir>(
 }
 
 // The writer has the new infos; the files of the former ones, those that the merge held, and what is in hand are given back.
-fn place<D: Dir>(parts: &mut Parts<D>, seg: SegNo, ready: CutReady)
+fn place<D: Dir>(parts: &mut PrimaryParts<D>, seg: SegNo, ready: CutReady)
     requires { HasWrittenCut D.cells parts.old seg ready }
     ensures infos { (parts.new.infos ≡ ready.infos) × (parts.new.segs ≡ ready.segs) }
     ensures names { parts.new.names ≡ ready.names }
@@ -202,7 +202,7 @@ fn place<D: Dir>(parts: &mut Parts<D>, seg: SegNo, ready: CutReady)
 /// segments are as before; out of memory leaves it in flight.
 pub fn merge_cut<D: Dir>(
     alloc: Global,
-    parts: &mut Parts<D>,
+    parts: &mut PrimaryParts<D>,
     seg: SegNo,
 ) -> Result<(), PrimaryFault>
     requires whole { IsPrimary D.cells parts.old }

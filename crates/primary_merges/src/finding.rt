@@ -8,7 +8,7 @@ ghost use Rattle.primary_state.specs.Calls.{DrawsOnly, HoldsNoNew};
 
 use disk_model::Dir;
 use nrt_base::{List, SegNo};
-use primary_state::{Merging, Parts};
+use primary_state::{Merging, PrimaryParts};
 
 /// The place of the merge of a number.
 pub(crate) fn place_of(merges: &[Merging], seg: SegNo) -> usize
@@ -46,7 +46,7 @@ pub fn take_merge(merges: &mut List<Merging>, seg: SegNo) -> Merging
 }
 
 /// The merge has ended: what it held is given back, and its inputs can be chosen again.
-pub fn abandon<D: Dir>(parts: &mut Parts<D>, seg: SegNo)
+pub fn abandon<D: Dir>(parts: &mut PrimaryParts<D>, seg: SegNo)
     requires whole { IsPrimary D.cells parts.old }
     requires there { is_some (merge_of seg.0 parts.old.merges) ≡ true }
     ensures merges { parts.new.merges ≡ merges_without seg.0 parts.old.merges }

@@ -7,7 +7,7 @@ mod readying;
 mod starting;
 
 pub use cutting::merge_cut;
-pub use primary_state::{Merging, Out, Parts, PrimaryFault, Publish, PublishFault};
+pub use primary_state::{Merging, Out, PrimaryFault, PrimaryParts, Publish, PublishFault};
 pub use readying::merge_ready;
 pub use seg_reader::Segment;
 pub use segment_steps::{FlushTask, FlushWork, MergeTask, Merged, NextSegments, flush};

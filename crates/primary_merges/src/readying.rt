@@ -22,7 +22,7 @@ use disk_model::{Dir, DirFault};
 use file_names::FileName;
 use nrt_base::{List, NoMemory, Share};
 use primary_state::{
-    Merging, Out, Parts, PrimaryFault, joined, lend, meta_told, names_in, write_all,
+    Merging, Out, PrimaryFault, PrimaryParts, joined, lend, meta_told, names_in, write_all,
 };
 use seg_merge::Merged;
 use segment_infos::encode;
@@ -71,7 +71,11 @@ pub struct StateReady {
 }
 
 // All that memory is needed for.
-fn prepare<D: Dir>(alloc: Global, parts: &Parts<D>, merged: &Merged) -> Result<StateReady, NoMemory>
+fn prepare<D: Dir>(
+    alloc: Global,
+    parts: &PrimaryParts<D>,
+    merged: &Merged,
+) -> Result<StateReady, NoMemory>
     requires whole { IsPrimary D.cells parts.now }
     requires made { IsMadeFor parts.now merged.now }
     ensures { IfOk result (IsStateReady parts.now merged.now) }
@@ -107,7 +111,7 @@ fn prepare<D: Dir>(alloc: Global, parts: &Parts<D>, merged: &Merged) -> Result<S
 /// them, which is out until it is given back. Where the directory fails, the merge has ended; out of memory leaves it in flight.
 pub fn merge_ready<D: Dir>(
     alloc: Global,
-    parts: &mut Parts<D>,
+    parts: &mut PrimaryParts<D>,
     merged: Merged,
 ) -> Result<CopyState, PrimaryFault>
     requires whole { IsPrimary D.cells parts.old }

@@ -15,7 +15,9 @@ use disk_model::Dir;
 use file_deleter::FileDeleter;
 use file_names::FileName;
 use nrt_base::{List, NoMemory, SegNo, Share};
-use primary_state::{MergeStart, MergeTask, Merging, Parts, PublishFault, inputs_of, start_merge};
+use primary_state::{
+    MergeStart, MergeTask, Merging, PrimaryParts, PublishFault, inputs_of, start_merge,
+};
 use segment_infos::{Infos, SegRecord, files_of};
 use std::alloc::Global;
 
@@ -113,7 +115,7 @@ fn note<D: Dir>(
 // The merge that was chosen starts: its number is drawn.
 fn begin<D: Dir>(
     alloc: Global,
-    parts: &mut Parts<D>,
+    parts: &mut PrimaryParts<D>,
     factor: u32,
     start: MergeStart,
 ) -> Result<MergeTask, NoMemory>
@@ -156,7 +158,7 @@ fn begin<D: Dir>(
 // The merge of the first neighbours that can be chosen, under the next number.
 fn choose<D: Dir>(
     alloc: Global,
-    parts: &Parts<D>,
+    parts: &PrimaryParts<D>,
     factor: u32,
 ) -> Result<Option<MergeStart>, NoMemory>
     requires whole { IsPrimary D.cells parts.now }
@@ -182,7 +184,7 @@ fn choose<D: Dir>(
 /// Starts a merge of the first neighbours that are chosen, and holds their files. The directory is not called.
 pub fn merge_start<D: Dir>(
     alloc: Global,
-    parts: &mut Parts<D>,
+    parts: &mut PrimaryParts<D>,
     factor: u32,
 ) -> Result<Option<MergeTask>, PublishFault>
     requires whole { IsPrimary D.cells parts.old }

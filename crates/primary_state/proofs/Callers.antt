@@ -22,7 +22,7 @@ use Rattle.searcher_switch.specs.Standing.{StandsForSome, IsStanding}
 use Rattle.segment_steps.specs.declared.flushing.FlushTask.{FlushTask}
 use Rattle.segment_steps.specs.declared.flushing.FlushWork.{FlushWork}
 use Rattle.segment_steps.specs.Next.{IsFlushOf}
-use Rattle.primary_state.specs.declared.parts.Parts.{Parts}
+use Rattle.primary_state.specs.declared.parts.PrimaryParts.{PrimaryParts}
 use Rattle.primary_state.specs.declared.states.Out.{Out}
 use Rattle.primary_state.specs.Cut.{has_put, noted, number_drawn}
 use Rattle.primary_state.specs.Held.{IsHeld, AreUndrawn, AreNumbered}
@@ -36,7 +36,7 @@ use Rattle.primary_state.proofs.StateLemmas.{names-push, same_out_self}
 
 -- ---- a publish
 -- THE WORK, from what publish_start noted and what flush made: operations that were accepted since stand behind
-pub work_is : {D : Type 0} (p : Parts D) (task : FlushTask) (work : FlushWork) (more : List Op) → p.publish ≡ noted task.seg task.ops → p.waiting ≡ task.ops ++ more → task.segs ≡ p.segs → IsFlushOf task work → IsWorkOf p work
+pub work_is : {D : Type 0} (p : PrimaryParts D) (task : FlushTask) (work : FlushWork) (more : List Op) → p.publish ≡ noted task.seg task.ops → p.waiting ≡ task.ops ++ more → task.segs ≡ p.segs → IsFlushOf task work → IsWorkOf p work
 work_is p task work more flight waits segs flushed = record {
   publish = record { seg = task.seg; count = length task.ops };
   in_flight = flight;
@@ -52,15 +52,15 @@ seg_given true infos = (λ h. refl, λ h. refl)
 seg_given false infos = (λ h. absurd (true≢false (sym h)), λ h. absurd (true≢false (sym h)))
 
 -- what flush asks for is true of the task that a publish gives
-pub task_sound : {D : Type 0} (cells : D → Cells) (p : Parts D) (task : FlushTask) → IsPrimary cells p → IsTaskOf p task → All IsSound task.segs
+pub task_sound : {D : Type 0} (cells : D → Cells) (p : PrimaryParts D) (task : FlushTask) → IsPrimary cells p → IsTaskOf p task → All IsSound task.segs
 task_sound cells p task is t = subst (λ (segs : List Shown). All IsSound segs) (sym t.segs) is.writer.stands.stand.sound
 
-pub task_seg : {D : Type 0} (p : Parts D) (task : FlushTask) → IsTaskOf p task → IsSome task.seg ↔ IsTrue (list_any is_put task.ops)
+pub task_seg : {D : Type 0} (p : PrimaryParts D) (task : FlushTask) → IsTaskOf p task → IsSome task.seg ↔ IsTrue (list_any is_put task.ops)
 task_seg p task t = subst (λ (o : Option SegNo). IsSome o ↔ IsTrue (list_any is_put task.ops)) (sym t.seg)
     (subst (λ (ops : List Op). IsSome (number_drawn (has_put p.waiting) p.infos) ↔ IsTrue (list_any is_put ops)) (sym t.ops) (seg_given (has_put p.waiting) p.infos))
 
 -- the work of that task is the work of the publish in flight
-pub work_of_task : {D : Type 0} (p : Parts D) (task : FlushTask) (work : FlushWork) → IsTaskOf p task → IsFlushOf task work → IsWorkOf (after_start p (Some task)) work
+pub work_of_task : {D : Type 0} (p : PrimaryParts D) (task : FlushTask) (work : FlushWork) → IsTaskOf p task → IsFlushOf task work → IsWorkOf (after_start p (Some task)) work
 work_of_task p task work t flushed = work_is (after_start p (Some task)) task work [] (ap (λ (ops : List Op). noted task.seg ops) (sym t.ops)) (sym t.ops ∙ sym (append-nil task.ops)) t.segs flushed
 
 -- ---- copy states

@@ -13,14 +13,14 @@ use Rattle.commit_steps.specs.declared.stage.CommitBook.{CommitBook}
 use Rattle.commit_steps.specs.Book.{book_names, IsBookSound, book_after, HasBegun}
 use Rattle.searcher_switch.specs.Node.{IsWholeNode, AddsOnly}
 use Rattle.searcher_switch.specs.Standing.{IsStanding}
-use Rattle.searcher_switch.specs.declared.open.Point.{Point}
+use Rattle.searcher_switch.specs.declared.open.SearchPoint.{SearchPoint}
 use Rattle.searcher_switch.specs.declared.searchers.Searchers.{Searchers}
 use Rattle.searcher_switch.specs.Tickets.{ticket_names}
 use Rattle.searcher_switch.specs.Searching.{searcher_names}
 use Rattle.searcher_switch.proofs.Carry.{node_front, node_moves, nothing_written, node_commits, node_begins, node_exist, node_there, node_counted}
 use Rattle.searcher_switch.proofs.Standing.{standing_kept, standing_step, standing_begun}
 use Rattle.searcher_switch.proofs.Fewer.{no_more_beside, no_more_step, no_more_begun}
-use Rattle.primary_state.specs.declared.parts.Parts.{Parts}
+use Rattle.primary_state.specs.declared.parts.PrimaryParts.{PrimaryParts}
 use Rattle.primary_state.specs.Held.{IsHeld}
 use Rattle.primary_state.specs.States.{state_names}
 use Rattle.primary_state.specs.Merges.{merge_names, IsMerging}
@@ -47,7 +47,7 @@ pub book_counted : (cells : Cells) (files : Holdings) (hs : List Name) (book : C
 book_counted cells files hs book node q there = omega (arith, among_times (book_names book) q there, node.counts q)
 
 -- what a primary names with these states out
-pub states_split : {D : Type 0} (p : Parts D) (states : List Out) (q : Name) → times (searcher_names p.searchers ++ (p.names ++ (state_names states ++ merge_names p.merges))) q
+pub states_split : {D : Type 0} (p : PrimaryParts D) (states : List Out) (q : Name) → times (searcher_names p.searchers ++ (p.names ++ (state_names states ++ merge_names p.merges))) q
     ≡ times (searcher_names p.searchers) q + (times p.names q + (times (state_names states) q + times (merge_names p.merges) q))
 states_split p states q =
     let rest : List Name = state_names states ++ merge_names p.merges in
@@ -57,7 +57,7 @@ states_split p states q =
     omega (arith, a, b, c)
 
 -- the states add names of the point alone, so the primary names no more
-pub states_only : {D : Type 0} (p : Parts D) (states : List Out) → AddsOnly p.searchers.point.names (state_names p.states) (state_names states)
+pub states_only : {D : Type 0} (p : PrimaryParts D) (states : List Out) → AddsOnly p.searchers.point.names (state_names p.states) (state_names states)
     → AddsOnly [] (primary_names p) (searcher_names p.searchers ++ (p.names ++ (state_names states ++ merge_names p.merges)))
 states_only p states only = record {
   each = λ q none nil.
@@ -68,24 +68,24 @@ states_only p states only = record {
       omega (arith, none, was, states_split p states q, only.each q zero_states zero_point);
 }
 
-module _ {D : Type 0} (cells : D → Cells) (p : Parts D) (is : IsPrimary cells p) where
+module _ {D : Type 0} (cells : D → Cells) (p : PrimaryParts D) (is : IsPrimary cells p) where
   -- ---- a call that is lent the searchers, after which they search the same point
   pub primary_searchers : (dir : D) (files : Holdings) (searchers : Searchers Shown) → MovesCounts [] (searcher_names p.searchers) (searcher_names searchers) p.files files (cells p.dir) (cells dir)
       → AddsOnly [] (searcher_names p.searchers) (searcher_names searchers) → searchers.point ≡ p.searchers.point → IsPrimary cells (record p { dir = dir; files = files; searchers = searchers })
   primary_searchers dir files searchers moves only e =
       let node : IsWholeNode (cells dir) files (searcher_names searchers ++ (p.names ++ rest_names p)) p.commits = node_front (cells p.dir) (cells dir) p.files files p.commits (searcher_names p.searchers) (searcher_names searchers) (p.names ++ rest_names p) is.node moves only in
-      let same_names : (q : Name) → times searchers.point.names q ≡ times p.searchers.point.names q = λ q. ap (λ (x : Point Shown). times x.names q) e in
+      let same_names : (q : Name) → times searchers.point.names q ≡ times p.searchers.point.names q = λ q. ap (λ (x : SearchPoint Shown). times x.names q) e in
       record {
         node = node;
         standing = standing_kept (cells p.dir) (cells dir) p.files p.commits is.node.sound
             (λ q there. moves.keeps.reads q (book_counted (cells p.dir) p.files (primary_names p) p.commits is.node q there) (book_counted (cells dir) files (searcher_names searchers ++ (p.names ++ rest_names p)) p.commits node q there)) is.standing;
         writer = held_kept (reads_of (cells p.dir)) (reads_of (cells dir)) p.infos p.segs p.names is.writer
             (λ q some. moves.keeps.reads q (writer_counted (cells p.dir) p.files p.searchers p.names (rest_names p) p.commits is.node q some) (writer_counted (cells dir) files searchers p.names (rest_names p) p.commits node q some));
-        searched = subst (λ (x : Point Shown). IsHeld (reads_of (cells dir)) p.point_infos x.readers x.names) (sym e)
+        searched = subst (λ (x : SearchPoint Shown). IsHeld (reads_of (cells dir)) p.point_infos x.readers x.names) (sym e)
             (held_kept (reads_of (cells p.dir)) (reads_of (cells dir)) p.point_infos p.searchers.point.readers p.searchers.point.names is.searched
             (λ q some. moves.keeps.reads q (point_counted (cells p.dir) p.files p.searchers (p.names ++ rest_names p) p.commits is.node q some)
             (let now : 0 < times searchers.point.names q = omega (arith, some, same_names q) in point_counted (cells dir) files searchers (p.names ++ rest_names p) p.commits node q now)));
-        version = is.version ∙ sym (ap (λ (x : Point Shown). x.version) e);
+        version = is.version ∙ sym (ap (λ (x : SearchPoint Shown). x.version) e);
         versions = is.versions;
         waits = is.waits;
         numbered = is.numbered;
@@ -286,10 +286,10 @@ module _ {D : Type 0} (cells : D → Cells) (p : Parts D) (is : IsPrimary cells 
       omega (arith, some, a, times-append p.names (rest_names p) q, times-append (state_names p.states) (merge_names p.merges) q))
 
 -- where all but the directory, the counts and the publish is as before, so are the counts
-pub counts_same : {D : Type 0} (cells : D → Cells) (p n : Parts D) → IsPrimary cells p → IsPrimary cells n → KeepsPoint p n → HasSameCounts p n
+pub counts_same : {D : Type 0} (cells : D → Cells) (p n : PrimaryParts D) → IsPrimary cells p → IsPrimary cells n → KeepsPoint p n → HasSameCounts p n
 counts_same {D} cells p n is now e = record {
   each = λ q.
-      let names : times (primary_names n) q ≡ times (primary_names p) q = ap (λ (x : Parts D). times (primary_names x) q) e in
-      let book : times (book_names n.commits) q ≡ times (book_names p.commits) q = ap (λ (x : Parts D). times (book_names x.commits) q) e in
+      let names : times (primary_names n) q ≡ times (primary_names p) q = ap (λ (x : PrimaryParts D). times (primary_names x) q) e in
+      let book : times (book_names n.commits) q ≡ times (book_names p.commits) q = ap (λ (x : PrimaryParts D). times (book_names x.commits) q) e in
       omega (arith, is.node.counts q, now.node.counts q, names, book);
 }

@@ -11,7 +11,7 @@ use Rattle.commit_steps.proofs.Safe.{contains_of}
 use Rattle.commit_steps.specs.Book.{book_names}
 use Rattle.commit_steps.specs.declared.stage.CommitBook.{CommitBook}
 use Rattle.searcher_switch.specs.Node.{AddsOnly}
-use Rattle.primary_state.specs.declared.parts.Parts.{Parts}
+use Rattle.primary_state.specs.declared.parts.PrimaryParts.{PrimaryParts}
 use Rattle.primary_state.specs.declared.parts.Publish.{Publish}
 use Rattle.primary_state.specs.Held.{IsUndrawn, IsUnused, IsNextLive, part, live, next_live}
 use Rattle.primary_state.specs.Primary.{publish_loose, rest_loose, loose_of, filled_of, IsUnwritten, primary_names, IsPrimary}
@@ -40,7 +40,7 @@ pub behind_loose : (infos : Infos) (first rest : List ℕ) (seg : ℕ) → IsUnu
 behind_loose infos first rest seg (small, inl le) = (small, inl le)
 behind_loose infos first rest seg (small, inr c) = (small, inr (Contains-append_right first rest seg c))
 
-module _ {D : Type 0} (cells : D → Cells) (p n : Parts D) where
+module _ {D : Type 0} (cells : D → Cells) (p n : PrimaryParts D) where
   -- where a primary names no more, it counts no other file
   pub no_new_named : IsPrimary cells p → IsPrimary cells n → n.commits ≡ p.commits → AddsOnly [] (primary_names p) (primary_names n) → HoldsNoNew p n
   no_new_named is now same only = record {
@@ -58,13 +58,13 @@ module _ {D : Type 0} (cells : D → Cells) (p n : Parts D) where
   kept_draws kept ended = record { each = each }
     where
       rest : rest_loose n ≡ rest_loose p
-      rest = ap (λ (x : Parts D). rest_loose x) kept
+      rest = ap (λ (x : PrimaryParts D). rest_loose x) kept
 
       infos : n.infos ≡ p.infos
-      infos = ap (λ (x : Parts D). x.infos) kept
+      infos = ap (λ (x : PrimaryParts D). x.infos) kept
 
       filled : filled_of n ≡ filled_of p
-      filled = ap (λ (x : Parts D). filled_of x) kept
+      filled = ap (λ (x : PrimaryParts D). filled_of x) kept
 
       each : (q : Name) → IsUnwritten n q → IsUnwritten p q
       each q undrawn = elim ended [
@@ -78,11 +78,11 @@ module _ {D : Type 0} (cells : D → Cells) (p n : Parts D) where
       ]
 
 -- where nothing changes
-pub same_fills : {D : Type 0} (p : Parts D) → FillsUndrawn p p
+pub same_fills : {D : Type 0} (p : PrimaryParts D) → FillsUndrawn p p
 same_fills p = record { each = λ q none some. absurd (omega (arith, none, some)) }
 
-pub same_draws : {D : Type 0} (p : Parts D) → DrawsOnly p p
+pub same_draws : {D : Type 0} (p : PrimaryParts D) → DrawsOnly p p
 same_draws p = record { each = λ q undrawn. undrawn }
 
-pub same_no_new : {D : Type 0} (p : Parts D) → HoldsNoNew p p
+pub same_no_new : {D : Type 0} (p : PrimaryParts D) → HoldsNoNew p p
 same_no_new p = record { each = λ q none. none }

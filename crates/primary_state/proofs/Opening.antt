@@ -11,7 +11,7 @@ use Rattle.searcher_switch.specs.Given.{Shown}
 use Rattle.file_deleter.specs.Holdings.{Holdings, times, AreThere}
 use Rattle.file_deleter.specs.Moves.{HoldsFiles}
 use Rattle.file_deleter.proofs.NameLemmas.{times-append}
-use Rattle.searcher_switch.specs.declared.open.Point.{Point}
+use Rattle.searcher_switch.specs.declared.open.SearchPoint.{SearchPoint}
 use Rattle.searcher_switch.specs.declared.open.Open.{Open}
 use Rattle.searcher_switch.specs.declared.searchers.Searchers.{Searchers}
 use Rattle.searcher_switch.specs.Tickets.{ticket_names}
@@ -19,7 +19,7 @@ use Rattle.searcher_switch.specs.Searching.{searcher_names}
 use Rattle.searcher_switch.specs.Node.{IsWholeNode}
 use Rattle.searcher_switch.specs.Standing.{IsStanding}
 use Rattle.searcher_switch.proofs.Carry.{node_kept, node_there, nothing_written}
-use Rattle.primary_state.specs.declared.parts.Parts.{Parts}
+use Rattle.primary_state.specs.declared.parts.PrimaryParts.{PrimaryParts}
 use Rattle.primary_state.specs.declared.parts.Publish.{Publish}
 use Rattle.primary_state.specs.declared.states.Out.{Out}
 use Rattle.primary_state.specs.declared.states.Merging.{Merging}
@@ -29,7 +29,7 @@ use Rattle.primary_state.specs.Merges.{merge_names, merge_loose, merge_filled, I
 use Rattle.primary_state.specs.Primary.{rest_names, publish_loose, rest_loose, filled_of, IsPrimary, loose_in}
 use Rattle.primary_state.proofs.Holding.{undrawn_kept}
 
-module _ {D : Type 0} (cells : D → Cells) (p : Parts D) (node : IsWholeNode (cells p.dir) p.files (searcher_names p.searchers) p.commits) (held : IsHeld (reads_of (cells p.dir)) p.infos p.segs p.searchers.point.names)
+module _ {D : Type 0} (cells : D → Cells) (p : PrimaryParts D) (node : IsWholeNode (cells p.dir) p.files (searcher_names p.searchers) p.commits) (held : IsHeld (reads_of (cells p.dir)) p.infos p.segs p.searchers.point.names)
     (names : List Name) (named : AreFilesOf p.infos names) where
   same_names : (q : Name) → times names q ≡ times p.searchers.point.names q
   same_names q = ap (λ (ns : List Name). times ns q) (one_list_of p.infos names p.searchers.point.names named held.files)
@@ -51,7 +51,7 @@ module _ {D : Type 0} (cells : D → Cells) (p : Parts D) (node : IsWholeNode (c
         let s : times (state_names p.states) q ≡ 0 = ap (λ (ss : List Out). times (state_names ss) q) states in
         let m : times (merge_names p.merges) q ≡ 0 = ap (λ (ms : List Merging). times (merge_names ms) q) merges in
         let d : times (rest_names p) q ≡ 0 = times-append (state_names p.states) (merge_names p.merges) q ∙ omega (arith, s, m) in
-        let e : times searchers.point.names q ≡ times names q = ap (λ (x : Point Shown). times x.names q) point ∙ ap (λ (ns : List Name). times ns q) n in
+        let e : times searchers.point.names q ≡ times names q = ap (λ (x : SearchPoint Shown). times x.names q) point ∙ ap (λ (ns : List Name). times ns q) n in
         let f : times (ticket_names searchers.tickets) q ≡ times (ticket_names p.searchers.tickets) q = ap (λ (ts : List (Open Shown)). times (ticket_names ts) q) tickets in
         omega (arith, a, b, c, d, e, f, same_names q, old_split q)
 
@@ -65,11 +65,11 @@ module _ {D : Type 0} (cells : D → Cells) (p : Parts D) (node : IsWholeNode (c
       node = node_open;
       standing = standing;
       writer = record { spelled = held.spelled; files = named; docs = held.docs; stands = held.stands };
-      searched = subst (λ (x : Point Shown). IsHeld (reads_of (cells p.dir)) point_infos x.readers x.names) (sym point)
+      searched = subst (λ (x : SearchPoint Shown). IsHeld (reads_of (cells p.dir)) point_infos x.readers x.names) (sym point)
           (subst (λ (x : Infos). IsHeld (reads_of (cells p.dir)) x readers point_names) (sym i)
           (subst (λ (ss : List Shown). IsHeld (reads_of (cells p.dir)) p.infos ss point_names) (sym r)
           (subst (λ (ns : List Name). IsHeld (reads_of (cells p.dir)) p.infos p.segs ns) (sym n) (record { spelled = held.spelled; files = named; docs = held.docs; stands = held.stands }))));
-      version = sym (ap (λ (x : Point Shown). x.version) point);
+      version = sym (ap (λ (x : SearchPoint Shown). x.version) point);
       versions = sym (ap (λ (x : Infos). x.version) i);
       merging = subst (λ (ms : List Merging). AllByRecursion (IsMerging (reads_of (cells p.dir)) p.infos.segs p.segs) ms) (sym merges) tt;
       merges_apart = subst AreApartMerges (sym merges) tt;

@@ -10,7 +10,7 @@ use Rattle.segment_steps.specs.declared.flushing.FlushTask.{FlushTask}
 use Rattle.segment_steps.specs.declared.flushing.FlushWork.{FlushWork}
 use Rattle.segment_steps.specs.declared.next.NextSegments.{NextSegments}
 use Rattle.segment_steps.specs.Next.{IsNextOf}
-use Rattle.primary_state.specs.declared.parts.Parts.{Parts}
+use Rattle.primary_state.specs.declared.parts.PrimaryParts.{PrimaryParts}
 use Rattle.primary_state.specs.Merges.{merge_inputs}
 use Rattle.primary_state.specs.Primary.{IsUnwritten}
 use Rattle.primary_state.specs.Held.{next_infos}
@@ -18,7 +18,7 @@ use Rattle.primary_state.specs.Cut.{after_cut, has_put, noted, number_drawn, inf
 
 module _ {D : Type 0} where
   -- the writer's infos are searched at their version, under the tickets of before
-  pub record SearchesWriter (old new : Parts D) : Type 0 where
+  pub record SearchesWriter (old new : PrimaryParts D) : Type 0 where
     pub version : new.searchers.point.version ≡ old.infos.version
     pub readers : new.searchers.point.readers ≡ old.segs
     pub tickets : new.searchers.tickets ≡ old.searchers.tickets
@@ -26,7 +26,7 @@ module _ {D : Type 0} where
 
   -- A primary that has opened on a directory, the commits, the infos and what reads their segments: it searches the infos at their
   -- version, under the tickets of before. No operation waits, no publish is in flight and no copy state is out.
-  pub record IsOpenedOn (dir : D) (searchers : Searchers Shown) (commits : CommitBook) (infos : Infos) (segs : List Shown) (p : Parts D) : Type 0 where
+  pub record IsOpenedOn (dir : D) (searchers : Searchers Shown) (commits : CommitBook) (infos : Infos) (segs : List Shown) (p : PrimaryParts D) : Type 0 where
     pub dir_is : p.dir ≡ dir
     pub commits_are : p.commits ≡ commits
     pub infos_are : p.infos ≡ infos
@@ -44,18 +44,18 @@ module _ {D : Type 0} where
     pub completed : p.completed ≡ []
 
   -- the task of a publish: the number that it draws, all operations that wait, and the writer's segments
-  pub record IsTaskOf (p : Parts D) (task : FlushTask) : Type 0 where
+  pub record IsTaskOf (p : PrimaryParts D) (task : FlushTask) : Type 0 where
     pub seg : task.seg ≡ number_drawn (has_put p.waiting) p.infos
     pub ops : task.ops ≡ p.waiting
     pub segs : task.segs ≡ p.segs
 
   -- a primary that was asked for a task
-  abbrev pub after_start : Parts D → Option FlushTask → Parts D
+  abbrev pub after_start : PrimaryParts D → Option FlushTask → PrimaryParts D
   after_start p None = p
   after_start p (Some task) = record p { infos = infos_drawn (has_put p.waiting) p.infos; publish = noted task.seg p.waiting }
 
   -- these segments are those of the next point, which is searched under the tickets of before; the operations of the cut wait no longer
-  pub record MakesPoint (old : Parts D) (made : NextSegments) (new : Parts D) : Type 0 where
+  pub record MakesPoint (old : PrimaryParts D) (made : NextSegments) (new : PrimaryParts D) : Type 0 where
     pub infos : new.infos ≡ next_infos old.infos made.records
     pub point_infos : new.point_infos ≡ next_infos old.infos made.records
     pub segs : new.segs ≡ made.segs
@@ -67,18 +67,18 @@ module _ {D : Type 0} where
     pub has_cut_over : new.has_cut_over ≡ false
 
   -- the next point has the segments that the work of a publish makes
-  pub record IsPublished (old : Parts D) (work : FlushWork) (new : Parts D) : Type 0 where
+  pub record IsPublished (old : PrimaryParts D) (work : FlushWork) (new : PrimaryParts D) : Type 0 where
     pub made : NextSegments
     pub next : IsNextOf old.infos.generation.0 old.infos.segs old.segs work (merge_inputs old.merges) made
     pub point : MakesPoint old made new
 
   -- all but the directory, the counts and the publish in flight is as before
-  abbrev pub KeepsPoint : Parts D → Parts D → Type 0
+  abbrev pub KeepsPoint : PrimaryParts D → PrimaryParts D → Type 0
   KeepsPoint old new = new ≡ record old { dir = new.dir; files = new.files; publish = new.publish }
 
   -- all but the directory, the counts, the searchers, the infos with their segments and names, the operations of the cut and the publish
   -- in flight is as before
-  abbrev pub KeepsOthers : Parts D → Parts D → Type 0
+  abbrev pub KeepsOthers : PrimaryParts D → PrimaryParts D → Type 0
   KeepsOthers old new = new ≡ record old {
     dir = new.dir;
     files = new.files;
@@ -93,17 +93,17 @@ module _ {D : Type 0} where
   }
 
   -- each file is counted as often as before
-  pub record HasSameCounts (old new : Parts D) : Type 0 where
+  pub record HasSameCounts (old new : PrimaryParts D) : Type 0 where
     pub each : (q : Name) → count_of new.files q ≡ count_of old.files q
 
   -- a file that is counted now and was not is one that was not written yet
-  pub record FillsUndrawn (old new : Parts D) : Type 0 where
+  pub record FillsUndrawn (old new : PrimaryParts D) : Type 0 where
     pub each : (q : Name) → count_of old.files q ≡ 0 → 0 < count_of new.files q → IsUnwritten old q
 
   -- a file that is not written yet was not written before
-  pub record DrawsOnly (old new : Parts D) : Type 0 where
+  pub record DrawsOnly (old new : PrimaryParts D) : Type 0 where
     pub each : (q : Name) → IsUnwritten new q → IsUnwritten old q
 
   -- no file is counted that was not counted before
-  pub record HoldsNoNew (old new : Parts D) : Type 0 where
+  pub record HoldsNoNew (old new : PrimaryParts D) : Type 0 where
     pub each : (q : Name) → count_of old.files q ≡ 0 → count_of new.files q ≡ 0

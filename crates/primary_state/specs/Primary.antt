@@ -7,18 +7,18 @@ use Rattle.copy_state.specs.States.{AreShortNames}
 use Rattle.searcher_switch.specs.Searching.{searcher_names}
 use Rattle.searcher_switch.specs.Node.{IsWholeNode, KeepsBytes}
 use Rattle.searcher_switch.specs.Standing.{IsStanding}
-use Rattle.primary_state.specs.declared.parts.Parts.{Parts}
+use Rattle.primary_state.specs.declared.parts.PrimaryParts.{PrimaryParts}
 use Rattle.primary_state.specs.declared.parts.Publish.{Publish}
 use Rattle.primary_state.specs.Held.{IsHeld, IsUndrawn, AreUndrawn, AreNumbered}
 use Rattle.primary_state.specs.States.{state_names}
 use Rattle.primary_state.specs.Merges.{merge_names, merge_loose, merge_filled, IsMerging, AreApartMerges}
 
 -- what holds beside the searchers and the writer's infos: the copy states that are out, and merges in flight
-abbrev pub rest_names : {D : Type 0} → Parts D → List Name
+abbrev pub rest_names : {D : Type 0} → PrimaryParts D → List Name
 rest_names p = state_names p.states ++ merge_names p.merges
 
 -- the names, with repeats, that a primary's holders name, beside those of the commits
-abbrev pub primary_names : {D : Type 0} → Parts D → List Name
+abbrev pub primary_names : {D : Type 0} → PrimaryParts D → List Name
 primary_names p = searcher_names p.searchers ++ (p.names ++ rest_names p)
 
 -- the number of a segment that is drawn and is not there yet
@@ -32,24 +32,24 @@ publish_loose None = []
 publish_loose (Some f) = loose_in f.seg
 
 -- those of merges
-abbrev pub rest_loose : {D : Type 0} → Parts D → List ℕ
+abbrev pub rest_loose : {D : Type 0} → PrimaryParts D → List ℕ
 rest_loose p = merge_loose p.merges
 
 -- the numbers of segments that are drawn and that the writer's infos do not have yet
-abbrev pub loose_of : {D : Type 0} → Parts D → List ℕ
+abbrev pub loose_of : {D : Type 0} → PrimaryParts D → List ℕ
 loose_of p = publish_loose p.publish ++ rest_loose p
 
 -- those of them whose parts are written: of merges before their cut-over
-abbrev pub filled_of : {D : Type 0} → Parts D → List ℕ
+abbrev pub filled_of : {D : Type 0} → PrimaryParts D → List ℕ
 filled_of p = merge_filled p.merges
 
 -- the name is that of a file of the writer that is not written yet
-abbrev pub IsUnwritten : {D : Type 0} → Parts D → Name → Type 0
+abbrev pub IsUnwritten : {D : Type 0} → PrimaryParts D → Name → Type 0
 IsUnwritten p q = IsUndrawn p.infos (loose_of p) (filled_of p) q
 
 -- a primary: its files are counted as its holders name them, its commits are of documents, and so are the writer's infos and the point that is searched;
 -- nobody holds a file that is not written yet
-pub record IsPrimary {D : Type 0} (cells : D → Cells) (p : Parts D) : Type 0 where
+pub record IsPrimary {D : Type 0} (cells : D → Cells) (p : PrimaryParts D) : Type 0 where
   pub node : IsWholeNode (cells p.dir) p.files (primary_names p) p.commits
   pub standing : IsStanding (reads_of (cells p.dir)) p.commits
   pub writer : IsHeld (reads_of (cells p.dir)) p.infos p.segs p.names
@@ -70,5 +70,5 @@ pub record IsPrimary {D : Type 0} (cells : D → Cells) (p : Parts D) : Type 0 w
   pub completed : AreShortNames p.completed
 
 -- a file that is held before and after reads the same
-abbrev pub KeepsHeldBytes : {D : Type 0} → (D → Cells) → Parts D → Parts D → Type 0
+abbrev pub KeepsHeldBytes : {D : Type 0} → (D → Cells) → PrimaryParts D → PrimaryParts D → Type 0
 KeepsHeldBytes cells old new = KeepsBytes old.files new.files (cells old.dir) (cells new.dir)

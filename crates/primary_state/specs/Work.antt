@@ -6,12 +6,12 @@ use Rattle.segment_steps.specs.Given.{AreSegmentsOf}
 use Rattle.segment_steps.specs.declared.flushing.FlushTask.{FlushTask}
 use Rattle.segment_steps.specs.declared.flushing.FlushWork.{FlushWork}
 use Rattle.segment_steps.specs.Next.{IsFlushOf}
-use Rattle.primary_state.specs.declared.parts.Parts.{Parts}
+use Rattle.primary_state.specs.declared.parts.PrimaryParts.{PrimaryParts}
 use Rattle.primary_state.specs.declared.parts.Publish.{Publish}
 use Rattle.primary_state.specs.Cut.{cut_by}
 
 -- the work was made for the cut and the segments of the publish in flight
-pub record IsWorkOf {D : Type 0} (p : Parts D) (work : FlushWork) : Type 0 where
+pub record IsWorkOf {D : Type 0} (p : PrimaryParts D) (work : FlushWork) : Type 0 where
   pub publish : Publish
   pub in_flight : p.publish ≡ Some publish
   pub task : FlushTask
@@ -21,6 +21,6 @@ pub record IsWorkOf {D : Type 0} (p : Parts D) (work : FlushWork) : Type 0 where
   pub flushed : IsFlushOf task work
 
 -- the searchers and the writer have segments of the documents after the cut
-abbrev pub AreOfCut : {D : Type 0} → Parts D → Parts D → Type 0
+abbrev pub AreOfCut : {D : Type 0} → PrimaryParts D → PrimaryParts D → Type 0
 AreOfCut old new = (docs : List Doc) → AreSegmentsOf docs old.segs
     → AreSegmentsOf (after_ops docs (cut_by old.publish old.waiting)) new.segs × AreSegmentsOf (after_ops docs (cut_by old.publish old.waiting)) new.searchers.point.readers

@@ -7,7 +7,7 @@ ghost use Rattle.std.specs.Ordering.{nat_cmp};
 ghost use Rattle.disk_model.specs.Disk.{is_among};
 ghost use Rattle.primary_state.specs.Primary.{IsPrimary};
 
-use crate::parts::Parts;
+use crate::parts::PrimaryParts;
 use disk_model::{Dir, FaultDir};
 use documents::Op;
 use file_names::FileName;
@@ -15,7 +15,7 @@ use nrt_base::{List, NoMemory};
 use std::alloc::Global;
 
 /// The names of the directory's files, ascending.
-pub fn names<D: Dir>(alloc: Global, parts: &Parts<D>) -> Result<Vec<FileName>, NoMemory>
+pub fn names<D: Dir>(alloc: Global, parts: &PrimaryParts<D>) -> Result<Vec<FileName>, NoMemory>
     requires { IsPrimary D.cells parts.now }
     ensures names { IfOk result (λ names. (q : List ℕ)
         → is_among names.items q ≡ is_some (D.cells parts.now.dir q).now) }
@@ -25,7 +25,7 @@ pub fn names<D: Dir>(alloc: Global, parts: &Parts<D>) -> Result<Vec<FileName>, N
 }
 
 /// Accepts an operation. Answers its place in this generation, from 1.
-pub fn accept<D: Dir>(parts: &mut Parts<D>, op: Op) -> Result<u32, NoMemory>
+pub fn accept<D: Dir>(parts: &mut PrimaryParts<D>, op: Op) -> Result<u32, NoMemory>
     requires whole { IsPrimary D.cells parts.old }
     requires below { parts.old.accepted + 1 < 2 ^ 32 }
     ensures place { IfOk result (λ place. place ≡ parts.old.accepted + 1) }
@@ -42,7 +42,7 @@ pub fn accept<D: Dir>(parts: &mut Parts<D>, op: Op) -> Result<u32, NoMemory>
 }
 
 /// The k-th counted call of the directory from now fails once.
-pub fn plan<D: FaultDir>(parts: &mut Parts<D>, k: u64)
+pub fn plan<D: FaultDir>(parts: &mut PrimaryParts<D>, k: u64)
     requires some { 0 < k }
     requires whole { IsPrimary D.cells parts.old }
     ensures plans { D.planned parts.new.dir ≡ record (D.planned parts.old.dir) { once = k } }
@@ -55,7 +55,7 @@ pub fn plan<D: FaultDir>(parts: &mut Parts<D>, k: u64)
 }
 
 /// The k-th counted call of the directory from now and every later one fail.
-pub fn stop_at<D: FaultDir>(parts: &mut Parts<D>, k: u64)
+pub fn stop_at<D: FaultDir>(parts: &mut PrimaryParts<D>, k: u64)
     requires some { 0 < k }
     requires whole { IsPrimary D.cells parts.old }
     ensures plans { D.planned parts.new.dir ≡ record (D.planned parts.old.dir) { stop = k } }

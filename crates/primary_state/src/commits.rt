@@ -7,14 +7,14 @@ ghost use Rattle.commit_steps.specs.Book.{commit_of, book_after, is_last_step, H
 ghost use Rattle.searcher_switch.specs.Appearing.{AppearsOnly, IsNameInFlight};
 ghost use Rattle.primary_state.specs.Primary.{IsPrimary, KeepsHeldBytes};
 
-use crate::parts::Parts;
+use crate::parts::PrimaryParts;
 use commit_steps::CommitFault;
 use disk_model::Dir;
 use nrt_base::NoMemory;
 use std::alloc::Global;
 
 /// Begins a commit of the point that is searched.
-pub fn commit_begin<D: Dir>(alloc: Global, parts: &mut Parts<D>) -> Result<(), NoMemory>
+pub fn commit_begin<D: Dir>(alloc: Global, parts: &mut PrimaryParts<D>) -> Result<(), NoMemory>
     requires whole { IsPrimary D.cells parts.old }
     requires none { parts.old.commits.stage ≡ None }
     requires below { parts.old.commits.next < 2 ^ 62 }
@@ -36,7 +36,7 @@ pub fn commit_begin<D: Dir>(alloc: Global, parts: &mut Parts<D>) -> Result<(), N
 }
 
 /// Makes the next call of the directory for the commit in flight.
-pub fn commit_step<D: Dir>(alloc: Global, parts: &mut Parts<D>) -> Result<bool, CommitFault>
+pub fn commit_step<D: Dir>(alloc: Global, parts: &mut PrimaryParts<D>) -> Result<bool, CommitFault>
     requires whole { IsPrimary D.cells parts.old }
     requires in_flight { IsSome parts.old.commits.stage }
     ensures ok { OnOk result (parts.new.commits ≡ book_after parts.old.commits) }

@@ -11,7 +11,7 @@ ghost use Rattle.primary_state.specs.Cut.{last_number};
 ghost use Rattle.primary_state.specs.Primary.{IsPrimary, KeepsHeldBytes};
 ghost use Rattle.primary_state.specs.Calls.{HoldsNoNew};
 
-use crate::parts::{Parts, PrimaryFault};
+use crate::parts::{PrimaryFault, PrimaryParts};
 use crate::states::{Out, lend, metas_of, take_back};
 use bytes::Bytes;
 use copy_state::CopyState;
@@ -22,7 +22,10 @@ use segment_infos::encode;
 use std::alloc::Global;
 
 /// The copy state of the point that is searched.
-pub fn take_state<D: Dir>(alloc: Global, parts: &mut Parts<D>) -> Result<CopyState, PrimaryFault>
+pub fn take_state<D: Dir>(
+    alloc: Global,
+    parts: &mut PrimaryParts<D>,
+) -> Result<CopyState, PrimaryFault>
     requires { IsPrimary D.cells parts.old }
     ensures state { IfOk result (IsStateOf (reads_of (D.cells parts.old.dir)) parts.old.point_infos
         parts.old.searchers.point.names (last_number parts.old.commits) parts.old.completed) }
@@ -78,7 +81,7 @@ pub fn take_state<D: Dir>(alloc: Global, parts: &mut Parts<D>) -> Result<CopySta
 }
 
 /// The bytes of a file that a copy state which is out names.
-pub fn source<D: Dir>(parts: &mut Parts<D>, name: &FileName) -> Result<Bytes, PrimaryFault>
+pub fn source<D: Dir>(parts: &mut PrimaryParts<D>, name: &FileName) -> Result<Bytes, PrimaryFault>
     requires whole { IsPrimary D.cells parts.old }
     requires out { 0 < times (state_names parts.old.states) name.now }
     ensures bytes { IfOk result (λ bytes. (D.cells parts.old.dir name.now).now ≡ Some bytes) }
@@ -98,7 +101,7 @@ pub fn source<D: Dir>(parts: &mut Parts<D>, name: &FileName) -> Result<Bytes, Pr
 }
 
 /// Takes a copy state back, and gives its files back.
-pub fn give_back<D: Dir>(parts: &mut Parts<D>, state: CopyState)
+pub fn give_back<D: Dir>(parts: &mut PrimaryParts<D>, state: CopyState)
     requires whole { IsPrimary D.cells parts.old }
     requires out { is_out (out_of state) parts.old.states ≡ true }
     ensures states { parts.new.states ≡ states_without (out_of state) parts.old.states }

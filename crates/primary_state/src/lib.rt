@@ -14,7 +14,7 @@ pub use beside::{accept, names, plan, stop_at};
 pub use commits::{commit_begin, commit_step};
 pub use copies::{give_back, source, take_state};
 pub use opens::{from_parts, into_dir};
-pub use parts::{Parts, PrimaryFault, Publish, PublishFault};
+pub use parts::{PrimaryFault, PrimaryParts, Publish, PublishFault};
 pub use searcher_switch::{Lease, Searchers, Ticket};
 pub use segment_steps::{MergeStart, MergeTask, start_merge};
 pub use states::{Merging, Out, inputs_of, lend, meta_told};

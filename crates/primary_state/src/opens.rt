@@ -10,7 +10,7 @@ ghost use Rattle.primary_state.specs.Held.{IsHeld, AreUndrawn, AreNumbered};
 ghost use Rattle.primary_state.specs.Calls.{SearchesWriter, IsOpenedOn};
 ghost use Rattle.searcher_switch.specs.Searching.{searcher_names};
 
-use crate::parts::Parts;
+use crate::parts::PrimaryParts;
 use commit_steps::CommitBook;
 use disk_model::Dir;
 use file_deleter::FileDeleter;
@@ -21,7 +21,7 @@ use std::alloc::Global;
 
 // The writer's infos are those of the searchers' point: their files are held once more, and they are searched from
 // now on.
-fn open<D: Dir>(alloc: Global, parts: &mut Parts<D>) -> Result<(), NoMemory>
+fn open<D: Dir>(alloc: Global, parts: &mut PrimaryParts<D>) -> Result<(), NoMemory>
     requires node { IsWholeNode (D.cells parts.old.dir) parts.old.files
         (searcher_names parts.old.searchers) parts.old.commits }
     requires standing { IsStanding (reads_of (D.cells parts.old.dir)) parts.old.commits }
@@ -63,7 +63,7 @@ pub fn from_parts<D: Dir>(
     commits: CommitBook,
     infos: Infos,
     segs: List<Segment>,
-) -> Result<Parts<D>, NoMemory>
+) -> Result<PrimaryParts<D>, NoMemory>
 where
     D: Drop,
     requires node { IsWholeNode (D.cells dir) files (searcher_names searchers) commits }
@@ -80,7 +80,7 @@ where
         counter: infos.counter,
         segs: List::new(alloc),
     };
-    let mut parts = Parts {
+    let mut parts = PrimaryParts {
         dir,
         files,
         searchers,
@@ -107,10 +107,10 @@ where
 }
 
 /// The directory, as it stands.
-pub fn into_dir<D: Dir>(parts: Parts<D>) -> D
+pub fn into_dir<D: Dir>(parts: PrimaryParts<D>) -> D
     ensures { result ≡ parts.dir }
 {
-    let Parts {
+    let PrimaryParts {
         dir,
         files: _,
         searchers: _,

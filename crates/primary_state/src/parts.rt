@@ -66,7 +66,7 @@ pub struct Publish {
 
 /// What a primary is made of, as its callers see it.
 #[derive(Drop)]
-pub struct Parts<D> {
+pub struct PrimaryParts<D> {
     pub dir: D,
     pub files: FileDeleter,
     pub searchers: Searchers<Segment>,

@@ -7,14 +7,14 @@ ghost use Rattle.primary_state.specs.Primary.{IsPrimary, KeepsHeldBytes};
 ghost use Rattle.primary_state.specs.Calls.{HoldsNoNew};
 ghost use Rattle.searcher_switch.specs.Searching.{IsLeaseOf};
 
-use crate::parts::Parts;
+use crate::parts::PrimaryParts;
 use disk_model::Dir;
 use nrt_base::NoMemory;
 use searcher_switch::{Lease, Segment, Ticket};
 use std::alloc::Global;
 
 /// Opens a ticket.
-pub fn acquire<D: Dir>(alloc: Global, parts: &mut Parts<D>) -> Result<Ticket, NoMemory>
+pub fn acquire<D: Dir>(alloc: Global, parts: &mut PrimaryParts<D>) -> Result<Ticket, NoMemory>
     requires { IsPrimary D.cells parts.old }
     ensures opened { IfOk result (λ ticket. parts.new.searchers.tickets ≡ parts.old.searchers.tickets
         ++ record { number = ticket.number; point = parts.old.searchers.point } ∷ []) }
@@ -33,7 +33,7 @@ pub fn acquire<D: Dir>(alloc: Global, parts: &mut Parts<D>) -> Result<Ticket, No
 }
 
 /// Closes a ticket.
-pub fn release<D: Dir>(parts: &mut Parts<D>, ticket: Ticket)
+pub fn release<D: Dir>(parts: &mut PrimaryParts<D>, ticket: Ticket)
     requires whole { IsPrimary D.cells parts.old }
     requires open { is_some (ticket_at ticket.number parts.old.searchers.tickets) ≡ true }
     ensures closed { parts.new.searchers.tickets
@@ -58,7 +58,7 @@ pub fn release<D: Dir>(parts: &mut Parts<D>, ticket: Ticket)
 /// What a search under a ticket reads.
 pub fn lease<D: Dir>(
     alloc: Global,
-    parts: &Parts<D>,
+    parts: &PrimaryParts<D>,
     ticket: &Ticket,
 ) -> Result<Lease<Segment>, NoMemory>
     requires { is_some (ticket_at ticket.now.number parts.now.searchers.tickets) ≡ true }

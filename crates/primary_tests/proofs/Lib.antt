@@ -1,1 +1,3 @@
 mod Empty
+mod Seeing
+mod Unmade

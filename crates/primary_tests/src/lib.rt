@@ -1,7 +1,12 @@
-//! Tests of the primary over a directory in memory, beside a plain model of it.
+//! Tests of the primary over a directory in memory.
 #![tactic(auto)]
 
 #[cfg(test)]
-mod merges;
+mod bench;
+#[cfg(test)]
+mod calls;
+mod seen;
 #[cfg(test)]
 mod tables;
+
+pub use seen::Seen;

@@ -9,6 +9,3 @@ mod rank;
 mod search;
 
 pub use search::answer;
-
-#[cfg(test)]
-mod tests;

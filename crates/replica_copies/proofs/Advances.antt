@@ -15,7 +15,7 @@ use Rattle.segment_infos.specs.Files.{files_of_segment, AreFilesOf}
 use Rattle.seg_reader.specs.Shown.{Shown}
 use Rattle.seg_reader.specs.Stands.{StandsFor}
 use Rattle.searcher_switch.proofs.Standing.{segments_along, stands_along}
-use Rattle.searcher_switch.specs.declared.open.Point.{Point}
+use Rattle.searcher_switch.specs.declared.open.SearchPoint.{SearchPoint}
 use Rattle.copy_job.specs.declared.part.JobPart.{JobPart}
 use Rattle.copy_job.specs.Parts.{present_names, own_names, written_names}
 use Rattle.copy_job.specs.Placing.{Places}
@@ -44,7 +44,7 @@ module _ (j : Job) (infos : Infos) (now : List JobPart) (olds : List Name) (h0 h
   pub stands_now : (docs : List Doc) → StandsFor (reads_under j.parts (reads_of a)) infos docs → StandsFor (reads_of b) infos docs
   stands_now docs h = stands_along (reads_under j.parts (reads_of a)) (reads_of b) infos docs (λ q named. files_read q named) h
 
-  pub old_readers : (older : Infos) (point : Point Shown) → olds ≡ point.names → IsPointOf (reads_of a) older point → AreReaders (reads_of b) older.segs point.readers
+  pub old_readers : (older : Infos) (point : SearchPoint Shown) → olds ≡ point.names → IsPointOf (reads_of a) older point → AreReaders (reads_of b) older.segs point.readers
   old_readers older point e is = segments_along (reads_of a) (reads_of b) older.segs point.readers (λ q named.
       let some : 0 < times olds q = (let f : times olds q ≡ times point.names q = ap (λ (ns : List Name). times ns q) e in omega (arith, f, file_counted older point.names is.names q named)) in
       done.moves.keeps.reads q (omega (arith, some, counted q)) (omega (arith, some, counted_now q))) is.readers

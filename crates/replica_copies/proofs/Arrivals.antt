@@ -15,7 +15,7 @@ use Rattle.replica_state.specs.Given.{IsLasting}
 use Rattle.commit_steps.specs.Book.{book_names}
 use Rattle.searcher_switch.proofs.Carry.{node_moves, unheld_apart}
 use Rattle.copy_job.specs.Jobs.{Job, job_names, IsJob, with_part}
-use Rattle.replica_state.specs.declared.parts.Parts.{Parts}
+use Rattle.replica_state.specs.declared.parts.ReplicaParts.{ReplicaParts}
 use Rattle.replica_state.specs.Merges.{copies_names, copied_names}
 use Rattle.replica_state.proofs.Sparing.{copied_missing}
 use Rattle.replica_state.specs.Replica.{IsPointState, IsJobAbove, names_of_job}
@@ -28,7 +28,7 @@ use Rattle.replica_state.proofs.Temporary.{book_no_temporary}
 use Rattle.replica_state.proofs.Along.{point_along}
 
 -- ---- a replica over a part that arrives, or does not
-module _ {D : Type 0} (cells : D → Cells) (p : Parts D) (is : IsCore cells p) (j : PointJob) (e : p.job ≡ Some j) where
+module _ {D : Type 0} (cells : D → Cells) (p : ReplicaParts D) (is : IsCore cells p) (j : PointJob) (e : p.job ≡ Some j) where
   pub node_j : IsWholeNode (cells p.dir) p.files (searcher_names p.searchers ++ (job_names j.copy ++ copies_names p.copies)) p.commits
   node_j = subst (λ (x : Option PointJob). IsWholeNode (cells p.dir) p.files (searcher_names p.searchers ++ (names_of_job x ++ copies_names p.copies)) p.commits) e is.node
 
@@ -73,7 +73,7 @@ module _ {D : Type 0} (cells : D → Cells) (p : Parts D) (is : IsCore cells p) 
     }
 
 -- ---- a part of the job arrives, or does not
-module _ {D : Type 0} (cells : D → Cells) (p : Parts D) (is : IsCore cells p) (j : PointJob) (e : p.job ≡ Some j) (few : j.copy.number < 2 ^ 64) (foreign : (name : Name) → 0 < times (copied_names j.copy) name → times (copies_names p.copies) (temp_name_of name j.copy.number) ≡ 0) where
+module _ {D : Type 0} (cells : D → Cells) (p : ReplicaParts D) (is : IsCore cells p) (j : PointJob) (e : p.job ≡ Some j) (few : j.copy.number < 2 ^ 64) (foreign : (name : Name) → 0 < times (copied_names j.copy) name → times (copies_names p.copies) (temp_name_of name j.copy.number) ≡ 0) where
   above_j : IsJobAbove p.searchers.point.version.0 j
   above_j = subst (λ (x : Option PointJob). IfSome x (IsJobAbove p.searchers.point.version.0)) e is.newer
 
@@ -118,7 +118,7 @@ module _ {D : Type 0} (cells : D → Cells) (p : Parts D) (is : IsCore cells p) 
           }
 
 -- the files of segments are counted as before
-pub counts_new : {D : Type 0} (cells : D → Cells) (p : Parts D) → IsCore cells p → (j : PointJob) → p.job ≡ Some j → (name : Name) (dir : D) (files : Holdings) (now : Job)
+pub counts_new : {D : Type 0} (cells : D → Cells) (p : ReplicaParts D) → IsCore cells p → (j : PointJob) → p.job ≡ Some j → (name : Name) (dir : D) (files : Holdings) (now : Job)
     → MovesCounts (temp_name_of name j.copy.number ∷ []) (job_names j.copy) (job_names now) p.files files (cells p.dir) (cells dir) → now ≡ with_part j.copy name → (q : Name) → IsLasting q → count_of files q ≡ count_of p.files q
 counts_new cells p is j e name dir files now moves made q lasting = omega (arith, moves.balance q, part_added j.copy now name made q, none (same (temp_name_of name j.copy.number) q) refl)
   where

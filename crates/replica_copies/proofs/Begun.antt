@@ -28,7 +28,7 @@ use Rattle.copy_job.proofs.Placings.{present_some}
 use Rattle.copy_job.proofs.Points.{own_or_not}
 use Rattle.copy_job.proofs.Taking.{part_kept, present_kept, present_at, same_listed, wanted_same, among_wanted, still_among}
 use Rattle.replica_state.specs.declared.job.PointJob.{PointJob}
-use Rattle.replica_state.specs.declared.parts.Parts.{Parts}
+use Rattle.replica_state.specs.declared.parts.ReplicaParts.{ReplicaParts}
 use Rattle.replica_state.specs.Jobs.{job_on, job_taking, Agrees}
 use Rattle.replica_state.specs.Merges.{running_names, copies_names, copied_names, SharesNone, CopyApart, AreCopiesApart}
 use Rattle.replica_state.specs.Replica.{IsWholeReplica, IsPointState, IsJobAbove, IsMergeCopy, AreMergeCopies, AreStanding, HasMetas, replica_names, copying_names, names_of_job}
@@ -89,7 +89,7 @@ none_moves j old files cells none = record {
 }
 
 -- what the job that begins and the older one hold is counted, once the copies beside them have ended
-pub over_counted : {D : Type 0} (cells : D → Cells) (p : Parts D) (is : IsWholeReplica cells p) (number : ℕ) (state : CopyState) (infos : Infos) (of : IsPointState state infos) (agreed : All (Agrees (reads_of (cells p.dir)) p.files) state.files)
+pub over_counted : {D : Type 0} (cells : D → Cells) (p : ReplicaParts D) (is : IsWholeReplica cells p) (number : ℕ) (state : CopyState) (infos : Infos) (of : IsPointState state infos) (agreed : All (Agrees (reads_of (cells p.dir)) p.files) state.files)
     (copy : Job) (copy_is : copy ≡ job_on number state p.files) (is_copy : IsJob copy) (slice : List Name) (slice_is : slice ≡ copy.reused) (mid : Holdings) (holds : HoldsFiles slice p.files mid (cells p.dir)) (old : Option PointJob) → old ≡ p.job
     → (running : List Job) (left : Holdings) (after : Cells) → MovesCounts [] (running_names p.copies.running) (running_names running) mid left (cells p.dir) after → AreCounted (job_names copy ++ names_of_job old) left
 over_counted cells p is number state infos of agreed copy copy_is is_copy slice slice_is mid holds old old_is running left after ended = record {
@@ -110,7 +110,7 @@ over_counted cells p is number state infos of agreed copy copy_is is_copy slice 
 }
 
 -- what the copies hold is counted, once the files that the job reuses are held
-pub copies_counted : {D : Type 0} (cells : D → Cells) (p : Parts D) (is : IsWholeReplica cells p) (slice : List Name) (mid : Holdings) (holds : HoldsFiles slice p.files mid (cells p.dir)) → AreCounted (running_names p.copies.running) mid
+pub copies_counted : {D : Type 0} (cells : D → Cells) (p : ReplicaParts D) (is : IsWholeReplica cells p) (slice : List Name) (mid : Holdings) (holds : HoldsFiles slice p.files mid (cells p.dir)) → AreCounted (running_names p.copies.running) mid
 copies_counted cells p is slice mid holds = record {
   each = λ q. omega (
     arith,
@@ -136,11 +136,11 @@ begun_few job copy now takes q =
     let reused : times now.reused q ≡ times copy.reused q = ap (λ (ns : List Name). times ns q) takes.reused in
     omega (arith, reused, takes.names q, times-append (present_names now.parts) now.reused q, times-append (present_names copy.parts) copy.reused q)
 
-module _ {D : Type 0} (cells : D → Cells) (p : Parts D) (is : IsWholeReplica cells p) (number : ℕ) (last : p.jobs + 1 ≡ number) (state : CopyState) (infos : Infos) (of : IsPointState state infos) (above : p.searchers.point.version.0 < state.version.0) (agreed : All (Agrees (reads_of (cells p.dir)) p.files) state.files)
+module _ {D : Type 0} (cells : D → Cells) (p : ReplicaParts D) (is : IsWholeReplica cells p) (number : ℕ) (last : p.jobs + 1 ≡ number) (state : CopyState) (infos : Infos) (of : IsPointState state infos) (above : p.searchers.point.version.0 < state.version.0) (agreed : All (Agrees (reads_of (cells p.dir)) p.files) state.files)
     (copy : Job) (copy_is : copy ≡ job_on number state p.files) (is_copy : IsJob copy) (slice : List Name) (slice_is : slice ≡ copy.reused) (mid : Holdings) (holds : HoldsFiles slice p.files mid (cells p.dir))
     (now : Job) (is_job : IsJob now) (takes : Begins p.job copy now) (running : List Job) (beside : running ≡ copies_beside (meta_names state.files) p.copies.running) (dir : D) (files : Holdings)
     (moves : MovesCounts [] (job_names copy ++ (names_of_job p.job ++ running_names p.copies.running)) (job_names now ++ running_names running) mid files (cells p.dir) (cells dir)) where
-  abbrev after : Parts D
+  abbrev after : ReplicaParts D
   after = record p { dir = dir; files = files; jobs = number; job = Some (record { copy = now; infos = infos; stopped = false }); copies = record { running = running; pending = p.copies.pending } }
 
   -- ---- the copies that stay

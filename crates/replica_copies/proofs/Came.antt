@@ -22,7 +22,7 @@ use Rattle.copy_state.specs.States.{meta_names, meta_in}
 use Rattle.copy_job.specs.Jobs.{Job, IsJob, job_names, with_part}
 use Rattle.replica_state.specs.Given.{IsLasting}
 use Rattle.replica_state.specs.declared.job.PointJob.{PointJob}
-use Rattle.replica_state.specs.declared.parts.Parts.{Parts}
+use Rattle.replica_state.specs.declared.parts.ReplicaParts.{ReplicaParts}
 use Rattle.copy_job.specs.declared.copying.Part.{Part}
 use Rattle.replica_state.specs.Merges.{copy_at, copies_with, copies_without, running_names, copies_names, copied_names, CopyApart, CanTakePart}
 use Rattle.replica_state.specs.Moving.{PartComes}
@@ -50,7 +50,7 @@ with_same number (x ∷ xs) c e = by (with_same number xs c) (x.number == number
     by more true g = let here : x ≡ c = cc in ap (λ (y : Job). y ∷ xs) (sym here)
     by more false g = ap (λ (ys : List Job). x ∷ ys) (more g)
 
-module _ {D : Type 0} (cells : D → Cells) (p : Parts D) (is : IsWholeReplica cells p) (number : ℕ) (c : Job) (e : copy_at number p.copies.running ≡ Some c) (name : Name) (missing : 0 < times c.missing name) where
+module _ {D : Type 0} (cells : D → Cells) (p : ReplicaParts D) (is : IsWholeReplica cells p) (number : ℕ) (c : Job) (e : copy_at number p.copies.running ≡ Some c) (name : Name) (missing : 0 < times c.missing name) where
   m : IsMergeCopy (cells p.dir) p.files p.jobs c
   m = all_at (IsMergeCopy (cells p.dir) p.files p.jobs) number p.copies.running c e is.merges.each
 
@@ -236,7 +236,7 @@ module _ {D : Type 0} (cells : D → Cells) (p : Parts D) (is : IsWholeReplica c
       out_held = holds_beside p (record p { dir = dir; files = files; known = p.known; copies = record { running = copies_with number now p.copies.running; pending = p.copies.pending } }) out_other
 
 -- ---- both, by the result
-module _ {D : Type 0} (cells : D → Cells) (p : Parts D) (is : IsWholeReplica cells p) (number : ℕ) (c : Job) (e : copy_at number p.copies.running ≡ Some c) (name : Name) (missing : 0 < times c.missing name) {T E : Type 0}
+module _ {D : Type 0} (cells : D → Cells) (p : ReplicaParts D) (is : IsWholeReplica cells p) (number : ℕ) (c : Job) (e : copy_at number p.copies.running ≡ Some c) (name : Name) (missing : 0 < times c.missing name) {T E : Type 0}
     (dir : D) (files : Holdings) (now : Job) (bytes : List ℕ) (meta : FileMetaData) (meta_is : IsMetaOf bytes meta) (wanted : meta_in c.want.files name ≡ Some meta) where
   pub comes_whole : (result : Result T E) → PartComes c now name bytes p.files files (cells p.dir) (cells dir) result → (running : List Job) → running ≡ copies_with number now p.copies.running
       → IsWholeReplica cells (record p { dir = dir; files = files; copies = record p.copies { running = running } })
@@ -294,7 +294,7 @@ pub some_here : (P : Job → Type 0) (o : Option Job) (c : Job) → o ≡ Some c
 some_here P o c e h = subst (λ (x : Option Job). IfSome x P) (sym e) h
 
 -- what RunningCopies::arrived asks for
-pub takes_all : {D : Type 0} (cells : D → Cells) (p : Parts D) → IsWholeReplica cells p → (number : ℕ) (part : Part) → IfSome (copy_at number p.copies.running) (λ c. 0 < times c.missing part.name)
+pub takes_all : {D : Type 0} (cells : D → Cells) (p : ReplicaParts D) → IsWholeReplica cells p → (number : ℕ) (part : Part) → IfSome (copy_at number p.copies.running) (λ c. 0 < times c.missing part.name)
     → IfSome (copy_at number p.copies.running) (λ c. meta_in c.want.files part.name ≡ Some part.meta) → IfSome (copy_at number p.copies.running) (CanTakePart part p.files)
 takes_all cells p is number part missing wanted = by (copy_at number p.copies.running) refl missing wanted
   where

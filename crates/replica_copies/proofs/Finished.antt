@@ -21,7 +21,7 @@ use Rattle.copy_job.specs.Parts.{placed_to, written_names, ArePlaceable}
 use Rattle.copy_job.specs.Jobs.{Job, IsJob, job_names, reads_under}
 use Rattle.replica_copies.specs.declared.advancing.NewPoint.{NewPoint}
 use Rattle.replica_state.specs.declared.job.PointJob.{PointJob}
-use Rattle.replica_state.specs.declared.parts.Parts.{Parts}
+use Rattle.replica_state.specs.declared.parts.ReplicaParts.{ReplicaParts}
 use Rattle.replica_state.specs.Waiting.{IsWaiting}
 use Rattle.replica_state.specs.Replica.{AreStanding, IsJobAbove, names_of_job, copying_names}
 use Rattle.replica_state.specs.declared.merges.MergeCopies.{MergeCopies}
@@ -29,7 +29,7 @@ use Rattle.replica_state.specs.Merges.{copies_names}
 use Rattle.replica_copies.specs.Advancing.{IsJobReady, TakesInHand}
 use Rattle.replica_copies.proofs.Switching.{ready_j, waits_refused, above_refused, above_now, node_refused, point_refused, slice_counted, node_finished, point_finished, reads_finished, stands_finished, lasting_finished, book_reads}
 
-module _ {D : Type 0} (cells : D → Cells) (p : Parts D) (is : IsCore cells p) (j : PointJob) (e : p.job ≡ Some j) (complete : IfSome p.job (λ k. k.copy.missing ≡ []))
+module _ {D : Type 0} (cells : D → Cells) (p : ReplicaParts D) (is : IsCore cells p) (j : PointJob) (e : p.job ≡ Some j) (complete : IfSome p.job (λ k. k.copy.missing ≡ []))
     (standing : IfSome p.job (λ k. StandsForSome (reads_under k.copy.parts (reads_of (cells p.dir))) k.infos)) where
   counts : (q : Name) → count_of p.files q ≡ times ((searcher_names p.searchers ++ book_names p.commits) ++ copies_names p.copies) q + times (names_of_job p.job) q
   counts q = omega (

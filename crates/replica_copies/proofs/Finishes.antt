@@ -10,7 +10,7 @@ use Rattle.copy_job.specs.Parts.{placed_to}
 use Rattle.copy_job.specs.Jobs.{Job, present_of, reads_under}
 use Rattle.merge_precopy.specs.Pending.{Pending}
 use Rattle.replica_state.specs.declared.merges.MergeCopies.{MergeCopies}
-use Rattle.replica_state.specs.declared.parts.Parts.{Parts}
+use Rattle.replica_state.specs.declared.parts.ReplicaParts.{ReplicaParts}
 use Rattle.replica_state.specs.Merges.{copy_at, copies_with, copies_without}
 use Rattle.replica_state.specs.Sources.{HoldsOnlyWanted}
 use Rattle.replica_state.proofs.Merging.{number_at}
@@ -23,7 +23,7 @@ same_fault T E a b e = cc
 
 -- ---- nothing was done
 -- memory was wanting before anything was done
-pub still_whole : {D : Type 0} (p : Parts D) (number : ℕ) → IfSome (copy_at number p.copies.running) (λ c. StillCopies number c p p)
+pub still_whole : {D : Type 0} (p : ReplicaParts D) (number : ℕ) → IfSome (copy_at number p.copies.running) (λ c. StillCopies number c p p)
 still_whole p number = by (copy_at number p.copies.running) refl
   where
     by : (o : Option Job) → copy_at number p.copies.running ≡ o → IfSome o (λ c. StillCopies number c p p)
@@ -31,11 +31,11 @@ still_whole p number = by (copy_at number p.copies.running) refl
     by (Some c) e = record { placed = 0; copies = sym (ap (λ (cs : List Job). record p.copies { running = cs }) (with_same number p.copies.running c e)) }
 
 -- ---- after parts were renamed
-pub holds_then : {D : Type 0} (p mid last : Parts D) (o : Option Job) → IfSome o (λ c. HoldsOnlyWanted c.want p mid) → ((q : Name) → count_of last.files q ≤ count_of mid.files q) → IfSome o (λ c. HoldsOnlyWanted c.want p last)
+pub holds_then : {D : Type 0} (p mid last : ReplicaParts D) (o : Option Job) → IfSome o (λ c. HoldsOnlyWanted c.want p mid) → ((q : Name) → count_of last.files q ≤ count_of mid.files q) → IfSome o (λ c. HoldsOnlyWanted c.want p last)
 holds_then p mid last None h fewer = tt
 holds_then p mid last (Some c) h fewer = λ q lasting some. h q lasting (omega (arith, some, fewer q))
 
-module _ {D : Type 0} (cells : D → Cells) (p mid : Parts D) (number : ℕ) (c : Job) (e : copy_at number p.copies.running ≡ Some c) {T E : Type 0} (result : Result T E) (places : PlacesCopy cells number c p mid result) where
+module _ {D : Type 0} (cells : D → Cells) (p mid : ReplicaParts D) (number : ℕ) (c : Job) (e : copy_at number p.copies.running ≡ Some c) {T E : Type 0} (result : Result T E) (places : PlacesCopy cells number c p mid result) where
   abbrev now : Job
   now = record c { parts = placed_to places.placed c.parts }
 
@@ -63,13 +63,13 @@ module _ {D : Type 0} (cells : D → Cells) (p mid : Parts D) (number : ℕ) (c 
   pub files_mid : (files : List (Name × FileMetaData)) → IfSome (copy_at number p.copies.running) (λ k. files ≡ k.want.files) → IfSome (copy_at number mid.copies.running) (λ k. files ≡ k.want.files)
   files_mid files h = mid_some (λ k. files ≡ k.want.files) (subst (λ (o : Option Job). IfSome o (λ k. files ≡ k.want.files)) e h)
 
-  pub ended_mid : (last : Parts D) → EndsCopy number mid last → EndsCopy number p last
+  pub ended_mid : (last : ReplicaParts D) → EndsCopy number mid last → EndsCopy number p last
   ended_mid last h = record {
     copies = h.copies ∙ ap (λ (m : MergeCopies). record m { running = copies_without number m.running }) places.copies
         ∙ ap (λ (cs : List Job). record p.copies { running = cs }) (without_with number p.copies.running now same_here);
   }
 
-  pub still_mid : (last : Parts D) → last.copies ≡ mid.copies → IfSome (copy_at number p.copies.running) (λ k. StillCopies number k p last)
+  pub still_mid : (last : ReplicaParts D) → last.copies ≡ mid.copies → IfSome (copy_at number p.copies.running) (λ k. StillCopies number k p last)
   still_mid last same = subst (λ (o : Option Job). IfSome o (λ k. StillCopies number k p last)) (sym e) (record { placed = places.placed; copies = same ∙ places.copies })
 
   module _ (all : places.placed ≡ length c.parts) where
@@ -77,7 +77,7 @@ module _ {D : Type 0} (cells : D → Cells) (p mid : Parts D) (number : ℕ) (c 
     own_mid = mid_some (λ k. k.parts ≡ placed_to (length k.parts) k.parts)
         (subst (λ (n : ℕ). placed_to n c.parts ≡ placed_to (length (placed_to n c.parts)) (placed_to n c.parts)) (sym all) (placed_twice c.parts))
 
-    pub settled_mid : (last : Parts D) → IfSome (copy_at number mid.copies.running) (λ k. SettlesCopy number k mid last) → IfSome (copy_at number p.copies.running) (λ k. SettlesCopy number k p last)
+    pub settled_mid : (last : ReplicaParts D) → IfSome (copy_at number mid.copies.running) (λ k. SettlesCopy number k mid last) → IfSome (copy_at number p.copies.running) (λ k. SettlesCopy number k p last)
     settled_mid last h =
         let s : SettlesCopy number now mid last = subst (λ (o : Option Job). IfSome o (λ k. SettlesCopy number k mid last)) at_mid h in
         subst (λ (o : Option Job). IfSome o (λ k. SettlesCopy number k p last)) (sym e) (record {
@@ -85,7 +85,7 @@ module _ {D : Type 0} (cells : D → Cells) (p mid : Parts D) (number : ℕ) (c 
               ∙ ap (λ (x : Pending). record { running = copies_without number p.copies.running; pending = record x { files = x.files ++ c.want.files } }) (ap (λ (m : MergeCopies). m.pending) places.copies);
         })
 
-    pub reads_mid : (last : Parts D) → last.dir ≡ mid.dir
+    pub reads_mid : (last : ReplicaParts D) → last.dir ≡ mid.dir
         → IfSome (copy_at number p.copies.running) (λ k. (q : Name) → 0 < times (meta_names k.want.files) q → (cells last.dir q).now ≡ reads_under k.parts (reads_of (cells p.dir)) q)
     reads_mid last same = subst (λ (o : Option Job). IfSome o (λ k. (q : Name) → 0 < times (meta_names k.want.files) q → (cells last.dir q).now ≡ reads_under k.parts (reads_of (cells p.dir)) q)) (sym e) (λ q wanted.
         let name : present_of (placed_to places.placed c.parts) q ≡ q = ap (λ (n : ℕ). present_of (placed_to n c.parts) q) all ∙ present_all c.parts q in

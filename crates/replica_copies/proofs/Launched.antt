@@ -14,7 +14,7 @@ use Rattle.copy_state.specs.States.{meta_names, IsCopyState}
 use Rattle.copy_job.specs.declared.part.JobKind.TheVariants.{Merge as MergeKind}
 use Rattle.copy_job.specs.Jobs.{Job, IsJob}
 use Rattle.replica_state.specs.declared.job.PointJob.{PointJob}
-use Rattle.replica_state.specs.declared.parts.Parts.{Parts}
+use Rattle.replica_state.specs.declared.parts.ReplicaParts.{ReplicaParts}
 use Rattle.replica_state.specs.Jobs.{Agrees, merge_job_on}
 use Rattle.replica_state.specs.Merges.{running_names, copies_names, copied_names, SharesNone, CopyApart}
 use Rattle.replica_state.specs.Sources.{CopiesFrom, KeepsSource, HoldsOnly}
@@ -26,7 +26,7 @@ use Rattle.replica_state.proofs.Merging.{all_map, all_both, all_push, apart_push
 use Rattle.replica_state.proofs.Segments.{segment_infos, segment_files}
 use Rattle.replica_state.proofs.Sparing.{copied_wanted, waits_spared}
 
-module _ {D : Type 0} (cells : D → Cells) (p : Parts D) (is : IsWholeReplica cells p) (number : ℕ) (last : p.jobs + 1 ≡ number) (state : CopyState) (of : IsCopyState state) (may : MayLaunch p state) (agreed : All (Agrees (reads_of (cells p.dir)) p.files) state.files)
+module _ {D : Type 0} (cells : D → Cells) (p : ReplicaParts D) (is : IsWholeReplica cells p) (number : ℕ) (last : p.jobs + 1 ≡ number) (state : CopyState) (of : IsCopyState state) (may : MayLaunch p state) (agreed : All (Agrees (reads_of (cells p.dir)) p.files) state.files)
     (copy : Job) (copy_is : copy ≡ merge_job_on number state p.files) (is_job : IsJob copy) where
   -- the files of the state, as those of infos
   pub state_files : AreFilesOf (segment_infos may.segment.seg) (meta_names state.files)

@@ -17,7 +17,7 @@ use Rattle.copy_state.specs.States.{meta_names}
 use Rattle.copy_job.specs.Jobs.{Job, IsJob, job_names}
 use Rattle.replica_state.specs.Given.{KnowsHeld, IsLasting}
 use Rattle.replica_state.specs.declared.job.PointJob.{PointJob}
-use Rattle.replica_state.specs.declared.parts.Parts.{Parts}
+use Rattle.replica_state.specs.declared.parts.ReplicaParts.{ReplicaParts}
 use Rattle.replica_state.specs.Merges.{copy_at, copies_with, copies_without, running_names, copies_names, copied_names, CopyApart}
 use Rattle.replica_state.specs.Sources.{CopiesFrom, HeldReadAs, IsSourced}
 use Rattle.replica_state.specs.Replica.{IsWholeReplica, IsJobAbove, HasMetas, IsMergeCopy, AreMergeCopies, names_of_job, copying_names, replica_names}
@@ -29,7 +29,7 @@ use Rattle.replica_state.proofs.Keeping.{HasWanted, whole_of, merge_spared, merg
 use Rattle.replica_state.proofs.Merging.{all_map, all_both, all_at, all_held, all_put, all_without, all_dropped, apart_with, apart_sym, names-with, names-without}
 use Rattle.replica_state.proofs.Sparing.{SparesJob, waits_spared, copied_lasts}
 
-module _ {D : Type 0} (cells : D → Cells) (p : Parts D) (is : IsWholeReplica cells p) (number : ℕ) (c : Job) (e : copy_at number p.copies.running ≡ Some c) (now : Job) (dir : D) (files : Holdings) (written : List Name)
+module _ {D : Type 0} (cells : D → Cells) (p : ReplicaParts D) (is : IsWholeReplica cells p) (number : ℕ) (c : Job) (e : copy_at number p.copies.running ≡ Some c) (now : Job) (dir : D) (files : Holdings) (written : List Name)
     (moves : MovesCounts written (job_names c) (job_names now) p.files files (cells p.dir) (cells dir)) (apart : IsApart written p.commits) (plain : (q : Name) → is_pending_name q ≡ true → times (job_names now) q ≡ 0) where
   pub is_copy : IsMergeCopy (cells p.dir) p.files p.jobs c
   is_copy = all_at (IsMergeCopy (cells p.dir) p.files p.jobs) number p.copies.running c e is.merges.each

@@ -14,7 +14,7 @@ use Rattle.copy_job.specs.Parts.{written_names, ArePlaceable}
 use Rattle.copy_job.specs.Placing.{Places}
 use Rattle.copy_job.specs.Jobs.{Job, present_of, reads_under}
 use Rattle.copy_job.proofs.Placings.{written_is}
-use Rattle.replica_state.specs.declared.parts.Parts.{Parts}
+use Rattle.replica_state.specs.declared.parts.ReplicaParts.{ReplicaParts}
 use Rattle.replica_state.specs.Held.{LearnsSome, LearnsAll}
 use Rattle.replica_state.specs.Merges.{copy_at, copies_with}
 use Rattle.replica_state.specs.Moving.{PartsPlaced, ChangesCopy}
@@ -36,14 +36,14 @@ placed_of c now old new before after (Ok x) h = (length c.parts, h.ok, refl)
 placed_of c now old new before after (Err x) h = (h.err.0, h.err.1, tt)
 
 -- what RunningCopies::place asks for
-pub placeable_some : {D : Type 0} (cells : D → Cells) (p : Parts D) → IsWholeReplica cells p → (number : ℕ) → IfSome (copy_at number p.copies.running) (λ k. k.missing ≡ []) → IfSome (copy_at number p.copies.running) (λ k. ArePlaceable p.files k.parts)
+pub placeable_some : {D : Type 0} (cells : D → Cells) (p : ReplicaParts D) → IsWholeReplica cells p → (number : ℕ) → IfSome (copy_at number p.copies.running) (λ k. k.missing ≡ []) → IfSome (copy_at number p.copies.running) (λ k. ArePlaceable p.files k.parts)
 placeable_some cells p is number complete = by (copy_at number p.copies.running) refl complete
   where
     by : (o : Option Job) → copy_at number p.copies.running ≡ o → IfSome o (λ k. k.missing ≡ []) → IfSome o (λ k. ArePlaceable p.files k.parts)
     by None e h = tt
     by (Some c) e h = placeable cells p is number c e h
 
-module _ {D : Type 0} (cells : D → Cells) (p : Parts D) (is : IsWholeReplica cells p) (number : ℕ) (c : Job) (e : copy_at number p.copies.running ≡ Some c) (complete_some : IfSome (copy_at number p.copies.running) (λ k. k.missing ≡ []))
+module _ {D : Type 0} (cells : D → Cells) (p : ReplicaParts D) (is : IsWholeReplica cells p) (number : ℕ) (c : Job) (e : copy_at number p.copies.running ≡ Some c) (complete_some : IfSome (copy_at number p.copies.running) (λ k. k.missing ≡ []))
     (noted slice : List (Name × FileMetaData)) (slice_is : slice ≡ c.want.files) (noted_some : LearnsSome slice p.known noted) where
   complete : c.missing ≡ []
   complete = subst (λ (o : Option Job). IfSome o (λ k. k.missing ≡ [])) e complete_some

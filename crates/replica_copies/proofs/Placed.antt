@@ -17,7 +17,7 @@ use Rattle.copy_job.specs.Parts.{own_names, written_names, ArePlaceable}
 use Rattle.copy_job.specs.Placing.{Places}
 use Rattle.copy_job.specs.Jobs.{Job, IsJob, job_names, present_of, reads_under}
 use Rattle.replica_state.specs.Given.{IsLasting, KnowsHeld}
-use Rattle.replica_state.specs.declared.parts.Parts.{Parts}
+use Rattle.replica_state.specs.declared.parts.ReplicaParts.{ReplicaParts}
 use Rattle.replica_state.specs.Held.{LearnsSome, LearnsAll}
 use Rattle.replica_state.specs.Merges.{copy_at, copies_with, copies_without, running_names, copies_names, copied_names, CopyApart, IsSegmentState}
 use Rattle.replica_state.specs.Sources.{CopiesFrom, IsSourced, HoldsOnlyWanted}
@@ -34,7 +34,7 @@ use Rattle.replica_state.proofs.Waiting.{can_place, job_foreign, waits_placed}
 use Rattle.replica_state.proofs.Written.{written_apart, now_plain}
 use Rattle.replica_copies.proofs.Moved.{moved_whole, moved_sourced}
 
-module _ {D : Type 0} (cells : D → Cells) (p : Parts D) (is : IsWholeReplica cells p) (number : ℕ) (c : Job) (e : copy_at number p.copies.running ≡ Some c) (complete : c.missing ≡ []) where
+module _ {D : Type 0} (cells : D → Cells) (p : ReplicaParts D) (is : IsWholeReplica cells p) (number : ℕ) (c : Job) (e : copy_at number p.copies.running ≡ Some c) (complete : c.missing ≡ []) where
   m : IsMergeCopy (cells p.dir) p.files p.jobs c
   m = all_at (IsMergeCopy (cells p.dir) p.files p.jobs) number p.copies.running c e is.merges.each
 

@@ -19,7 +19,7 @@ use Rattle.copy_job.specs.Jobs.{Job, job_names, present_of}
 use Rattle.copy_job.proofs.Points.{all_placed}
 use Rattle.merge_precopy.specs.Pending.{Pending, is_expected, with_files}
 use Rattle.replica_state.specs.declared.merges.MergeCopies.{MergeCopies}
-use Rattle.replica_state.specs.declared.parts.Parts.{Parts}
+use Rattle.replica_state.specs.declared.parts.ReplicaParts.{ReplicaParts}
 use Rattle.replica_state.specs.Merges.{copy_at, copies_with, copies_without, running_names, copies_names, CopyApart}
 use Rattle.replica_state.specs.Sources.{CopiesFrom, IsSourced}
 use Rattle.replica_state.specs.Replica.{IsWholeReplica, IsMergeCopy, names_of_job, copying_names, replica_names}
@@ -82,7 +82,7 @@ without_with number (x ∷ xs) now here = by (without_with number xs now here) (
     by more false f = ap (λ (b : Bool). if b then copies_with number now xs else x ∷ copies_without number (copies_with number now xs)) f ∙ ap (λ (ys : List Job). x ∷ ys) more
 
 -- ---- the files come to be pending
-module _ {D : Type 0} (cells : D → Cells) (p : Parts D) (is : IsWholeReplica cells p) (number : ℕ) (c : Job) (e : copy_at number p.copies.running ≡ Some c) (complete : c.missing ≡ []) (own : c.parts ≡ placed_to (length c.parts) c.parts) where
+module _ {D : Type 0} (cells : D → Cells) (p : ReplicaParts D) (is : IsWholeReplica cells p) (number : ℕ) (c : Job) (e : copy_at number p.copies.running ≡ Some c) (complete : c.missing ≡ []) (own : c.parts ≡ placed_to (length c.parts) c.parts) where
   m : IsMergeCopy (cells p.dir) p.files p.jobs c
   m = all_at (IsMergeCopy (cells p.dir) p.files p.jobs) number p.copies.running c e is.merges.each
 
@@ -140,7 +140,7 @@ module _ {D : Type 0} (cells : D → Cells) (p : Parts D) (is : IsWholeReplica c
       (record { held = h.held; job = h.job; merges = all_dropped (CopiesFrom source (reads_of (cells p.dir))) number p.copies.running h.merges })
 
 -- ---- by what the calls say
-module _ {D : Type 0} (cells : D → Cells) (p : Parts D) (is : IsWholeReplica cells p) (number : ℕ) (runs : is_some (copy_at number p.copies.running) ≡ true) (complete : IfSome (copy_at number p.copies.running) (λ k. k.missing ≡ []))
+module _ {D : Type 0} (cells : D → Cells) (p : ReplicaParts D) (is : IsWholeReplica cells p) (number : ℕ) (runs : is_some (copy_at number p.copies.running) ≡ true) (complete : IfSome (copy_at number p.copies.running) (λ k. k.missing ≡ []))
     (own : IfSome (copy_at number p.copies.running) (λ k. k.parts ≡ placed_to (length k.parts) k.parts)) (files : List (Name × FileMetaData)) (files_are : IfSome (copy_at number p.copies.running) (λ k. files ≡ k.want.files)) (seg : SegNo) (mid last : Pending)
     (mid_is : mid ≡ record p.copies.pending { expected = p.copies.pending.expected ++ seg ∷ [] }) (last_is : last ≡ with_files mid seg files) (running : List Job) (running_is : running ≡ copies_without number p.copies.running) where
   one : (c : Job) × (copy_at number p.copies.running ≡ Some c) × (c.missing ≡ [])

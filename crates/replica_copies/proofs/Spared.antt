@@ -11,7 +11,7 @@ use Rattle.searcher_switch.specs.Searching.{searcher_names}
 use Rattle.copy_job.specs.Jobs.{Job, job_names}
 use Rattle.replica_state.specs.Given.{IsLasting}
 use Rattle.replica_state.specs.declared.job.PointJob.{PointJob}
-use Rattle.replica_state.specs.declared.parts.Parts.{Parts}
+use Rattle.replica_state.specs.declared.parts.ReplicaParts.{ReplicaParts}
 use Rattle.replica_state.specs.Merges.{running_names, copied_names, CopyApart}
 use Rattle.replica_state.specs.Sources.{CopiesFrom}
 use Rattle.replica_state.specs.Replica.{IsWholeReplica, IsMergeCopy, copying_names}
@@ -20,7 +20,7 @@ use Rattle.replica_state.proofs.Keeping.{merge_spared, merge_lasts, source_spare
 use Rattle.replica_state.proofs.Merging.{all_map, all_both, all_held}
 use Rattle.replica_state.proofs.Sparing.{SparesJob}
 
-module _ {D : Type 0} (cells : D → Cells) (p : Parts D) (is : IsWholeReplica cells p) (j : PointJob) (e : p.job ≡ Some j) (dir : D) (files : Holdings)
+module _ {D : Type 0} (cells : D → Cells) (p : ReplicaParts D) (is : IsWholeReplica cells p) (j : PointJob) (e : p.job ≡ Some j) (dir : D) (files : Holdings)
     (temporary : (number : ℕ) → number < 2 ^ 64 → (name : Name) → times (copied_names j.copy) name ≡ 0 → count_of files (temp_name_of name number) ≡ count_of p.files (temp_name_of name number))
     (newly : (q : Name) → IsLasting q → count_of p.files q ≡ 0 → 0 < count_of files q → 0 < times (copied_names j.copy) q)
     (held : (q : Name) → 0 < times (running_names p.copies.running) q → 0 < count_of files q) (stays : KeepsBytes p.files files (cells p.dir) (cells dir)) where

@@ -13,7 +13,7 @@ use Rattle.segment_infos.specs.declared.infos.Infos.{Infos}
 use Rattle.segment_infos.specs.Files.{files_of_segment, AreFilesOf}
 use Rattle.seg_reader.specs.Shown.{Shown}
 use Rattle.commit_steps.specs.Book.{book_names}
-use Rattle.searcher_switch.specs.declared.open.Point.{Point}
+use Rattle.searcher_switch.specs.declared.open.SearchPoint.{SearchPoint}
 use Rattle.searcher_switch.specs.declared.open.Open.{Open}
 use Rattle.searcher_switch.specs.declared.searchers.Searchers.{Searchers}
 use Rattle.searcher_switch.specs.Tickets.{ticket_names}
@@ -24,7 +24,7 @@ use Rattle.copy_job.specs.Parts.{placed_to, own_names, present_names, written_na
 use Rattle.copy_job.specs.Jobs.{Job, IsJob, job_names, present_of, reads_under}
 use Rattle.replica_state.specs.Given.{KnowsHeld, IsLasting}
 use Rattle.replica_state.specs.declared.job.PointJob.{PointJob}
-use Rattle.replica_state.specs.declared.parts.Parts.{Parts}
+use Rattle.replica_state.specs.declared.parts.ReplicaParts.{ReplicaParts}
 use Rattle.replica_state.specs.Held.{LearnsSome, LearnsAll}
 use Rattle.nrt_base.specs.declared.doc.Doc.{Doc}
 use Rattle.seg_reader.specs.Stands.{StandsFor}
@@ -89,7 +89,7 @@ module _ (a c : Cells) (h0 h2 : Holdings) (j : Job) (infos : Infos) (others tick
           none q z (suc n) f = let some : 0 < times (meta_names j.want.files) q = is_wanted q (omega (arith, f)) in absurd (omega (arith, some, z))
 
 -- ---- a replica over the finish of its job
-module _ {D : Type 0} (cells : D → Cells) (p : Parts D) (is : IsWholeReplica cells p) (j : PointJob) (e : p.job ≡ Some j) (complete : IfSome p.job (λ k. k.copy.missing ≡ []))
+module _ {D : Type 0} (cells : D → Cells) (p : ReplicaParts D) (is : IsWholeReplica cells p) (j : PointJob) (e : p.job ≡ Some j) (complete : IfSome p.job (λ k. k.copy.missing ≡ []))
     (standing : IfSome p.job (λ k. StandsForSome (reads_under k.copy.parts (reads_of (cells p.dir))) k.infos)) (slice_files noted : List (Name × FileMetaData)) (slice_is : slice_files ≡ j.copy.want.files) (noted_some : LearnsSome slice_files p.known noted) where
   core : IsCore cells p
   core = core_of cells p is
@@ -247,7 +247,7 @@ module _ {D : Type 0} (cells : D → Cells) (p : Parts D) (is : IsWholeReplica c
         rest = ticket_names p.searchers.tickets ++ (book_names p.commits ++ copies_names p.copies)
 
         names_are : (q : Name) → times t.point.names q ≡ times point.names q
-        names_are q = ap (λ (x : Point Shown). times x.names q) searched
+        names_are q = ap (λ (x : SearchPoint Shown). times x.names q) searched
 
         tickets_are : (q : Name) → times (ticket_names t.tickets) q ≡ times (ticket_names p.searchers.tickets) q
         tickets_are q = ap (λ (ts : List (Open Shown)). times (ticket_names ts) q) tickets
@@ -325,7 +325,7 @@ module _ {D : Type 0} (cells : D → Cells) (p : Parts D) (is : IsWholeReplica c
         }
 
         pub done_whole : IsWholeReplica cells (record p { dir = dir; files = holdings; searchers = t; infos = j.infos; segs = point.segs; job = left; copies = next; known = known })
-        done_whole = whole_of cells (record p { dir = dir; files = holdings; searchers = t; infos = j.infos; segs = point.segs; job = left; copies = next; known = known }) done_core (sym (ap (λ (x : Point Shown). x.readers) searched))
+        done_whole = whole_of cells (record p { dir = dir; files = holdings; searchers = t; infos = j.infos; segs = point.segs; job = left; copies = next; known = known }) done_core (sym (ap (λ (x : SearchPoint Shown). x.readers) searched))
             (reads_known (cells dir) holdings known (held_finished (cells p.dir) (cells dir) p.files holdings j.copy j.infos p.searchers.point.names rest point.names above.state.files adv.names none_missing before_done after_done bytes_done reads_done
             (Knows noted) (Knows known) (HasWanted j.copy.want.files)
             (λ q content wanted has h. let k = turns q content wanted h in record { meta = k.meta; known_is = kept q has ∙ k.known_is; has = k.has })
@@ -354,7 +354,7 @@ module _ {D : Type 0} (cells : D → Cells) (p : Parts D) (is : IsWholeReplica c
         done_standing = standing_finished cells p core j e complete standing mid files now same parts next dropped split point adv slice gone_is dir holdings t left lets_go searched tickets ended point.segs known
 
 -- ---- where what is wanted is not noted, the job is as it was
-pub noted_still : {D : Type 0} (p : Parts D) (known : List (Name × FileMetaData)) → IfSome p.job (IsStillCopying p (record p { known = known }))
+pub noted_still : {D : Type 0} (p : ReplicaParts D) (known : List (Name × FileMetaData)) → IfSome p.job (IsStillCopying p (record p { known = known }))
 noted_still {D} p known = by p.job refl
   where
     by : (o : Option PointJob) → p.job ≡ o → IfSome o (IsStillCopying p (record p { known = known }))

@@ -18,7 +18,7 @@ use Rattle.commit_steps.specs.Book.{book_names}
 use Rattle.searcher_switch.specs.Node.{IsWholeNode}
 use Rattle.searcher_switch.proofs.Carry.{node_moves, node_kept, node_same_names, nothing_written}
 use Rattle.searcher_switch.proofs.Standing.{segments_along, stands_along}
-use Rattle.searcher_switch.specs.declared.open.Point.{Point}
+use Rattle.searcher_switch.specs.declared.open.SearchPoint.{SearchPoint}
 use Rattle.searcher_switch.specs.declared.searchers.Searchers.{Searchers}
 use Rattle.searcher_switch.specs.Tickets.{ticket_names}
 use Rattle.searcher_switch.specs.Searching.{searcher_names}
@@ -165,7 +165,7 @@ module _ (a b : Cells) (h0 h1 : Holdings) (s : Searchers Shown) (more : List Nam
       switched = switched_node b c h1 h2 s.point.names (ticket_names s.tickets ++ more) (ticket_names s.tickets ++ left) dropped point.names slice now book node_held rest_split slice_gone lets_go
 
       names_are : (q : Name) → times t.point.names q ≡ times point.names q
-      names_are q = ap (λ (x : Point Shown). times x.names q) searched
+      names_are q = ap (λ (x : SearchPoint Shown). times x.names q) searched
 
       tickets_are : (q : Name) → times (ticket_names t.tickets) q ≡ times (ticket_names s.tickets) q
       tickets_are q = ap (λ (ts : List (Open Shown)). times (ticket_names ts) q) tickets
@@ -189,7 +189,7 @@ module _ (a b : Cells) (h0 h1 : Holdings) (s : Searchers Shown) (more : List Nam
       read_on q named = new_reads b c h1 h2 s.point.names (ticket_names s.tickets ++ more) (ticket_names s.tickets ++ left) dropped point.names slice now book node_held rest_split slice_gone lets_go q (file_counted j.infos point.names adv.names q named)
 
       pub point_finished : IsPointOf (reads_of c) j.infos t.point
-      point_finished = subst (λ (p : Point Shown). IsPointOf (reads_of c) j.infos p) (sym searched) (record {
+      point_finished = subst (λ (p : SearchPoint Shown). IsPointOf (reads_of c) j.infos p) (sym searched) (record {
         version = refl;
         names = adv.names;
         readers = segments_along (reads_of b) (reads_of c) j.infos.segs point.segs read_on adv.readers;

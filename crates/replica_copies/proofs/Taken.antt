@@ -14,7 +14,7 @@ use Rattle.copy_state.specs.Meta.{IsMetaOf}
 use Rattle.copy_state.specs.States.{meta_names, meta_in}
 use Rattle.copy_job.specs.Jobs.{Job, IsJob, job_names, with_part}
 use Rattle.replica_state.specs.declared.job.PointJob.{PointJob}
-use Rattle.replica_state.specs.declared.parts.Parts.{Parts}
+use Rattle.replica_state.specs.declared.parts.ReplicaParts.{ReplicaParts}
 use Rattle.replica_state.specs.Merges.{running_names, copies_names, copied_names, CopyApart}
 use Rattle.replica_state.specs.Sources.{CopiesFrom, IsSourced, KeepsSource, HoldsOnly}
 use Rattle.replica_state.specs.Replica.{IsWholeReplica, IsJobAbove, HasMetas, IsMergeCopy, AreMergeCopies}
@@ -27,7 +27,7 @@ use Rattle.replica_state.proofs.Sparing.{SparesJob, copied_part, copied_missing}
 use Rattle.replica_copies.proofs.Arrivals.{arrives, stays_out, node_j, held_split, counts_new}
 use Rattle.replica_state.proofs.Parting.{part_added}
 
-module _ {D : Type 0} (cells : D → Cells) (p : Parts D) (is : IsWholeReplica cells p) where
+module _ {D : Type 0} (cells : D → Cells) (p : ReplicaParts D) (is : IsWholeReplica cells p) where
   -- ---- the job's temporary names are held by nobody beside it
   module _ (j : PointJob) (e : p.job ≡ Some j) where
     pub few_job : j.copy.number < 2 ^ 64

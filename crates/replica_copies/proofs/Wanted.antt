@@ -7,7 +7,7 @@ use Rattle.disk_model.specs.Disk.{Name, Cells}
 use Rattle.copy_state.specs.declared.meta.FileMetaData.{FileMetaData}
 use Rattle.copy_state.specs.States.{meta_names}
 use Rattle.copy_job.specs.Jobs.{Job}
-use Rattle.replica_state.specs.declared.parts.Parts.{Parts}
+use Rattle.replica_state.specs.declared.parts.ReplicaParts.{ReplicaParts}
 use Rattle.replica_state.specs.Merges.{copy_at, IsSegmentState}
 use Rattle.replica_state.specs.Replica.{IsWholeReplica, IsMergeCopy}
 use Rattle.replica_state.proofs.Merging.{all_at}
@@ -20,7 +20,7 @@ some_first : (files : List (Name × FileMetaData)) (q : Name) (rest : List Name)
 some_first [] q rest e g = cc
 some_first (x ∷ xs) q rest e g = cc
 
-module _ {D : Type 0} (cells : D → Cells) (p : Parts D) (is : IsWholeReplica cells p) (number : ℕ) (k : Job) (e : copy_at number p.copies.running ≡ Some k) (files : List (Name × FileMetaData)) (same : files ≡ k.want.files) where
+module _ {D : Type 0} (cells : D → Cells) (p : ReplicaParts D) (is : IsWholeReplica cells p) (number : ℕ) (k : Job) (e : copy_at number p.copies.running ≡ Some k) (files : List (Name × FileMetaData)) (same : files ≡ k.want.files) where
   segment : IsSegmentState k.want
   segment = (all_at (IsMergeCopy (cells p.dir) p.files p.jobs) number p.copies.running k e is.merges.each).segment
 

@@ -18,8 +18,8 @@ use disk_model::Dir;
 use file_deleter::FileDeleter;
 use file_names::FileName;
 use nrt_base::{List, NoMemory, Share};
-use replica_state::{ReadFault, readers_of};
-use searcher_switch::Point;
+use replica_state::{LoadFault, readers_of};
+use searcher_switch::SearchPoint;
 use seg_reader::Segment;
 use segment_infos::{Infos, files_of};
 use std::alloc::Global;
@@ -57,15 +57,15 @@ fn gone_names(
 }
 
 // Why a point is not in hand.
-fn cut_off(fault: ReadFault) -> JobFault
+fn cut_off(fault: LoadFault) -> JobFault
     requires { IsReadCutOff fault }
     ensures fault { IsPlacingFault result }
-    ensures failed { result ≡ JobFault.DirFailed → fault ≡ ReadFault.Failed }
+    ensures failed { result ≡ JobFault.DirFailed → fault ≡ LoadFault.Failed }
 {
     match fault {
-        ReadFault::Memory => JobFault::Memory,
-        ReadFault::Failed => JobFault::DirFailed,
-        ReadFault::Refused(_) => unreachable!(),
+        LoadFault::Memory => JobFault::Memory,
+        LoadFault::Failed => JobFault::DirFailed,
+        LoadFault::Refused(_) => unreachable!(),
     }
 }
 
@@ -77,7 +77,7 @@ pub fn advance<D: Dir>(
     copy: &mut CopyJob,
     wanted: &Infos,
     infos: &Infos,
-    olds: &Point<Segment>,
+    olds: &SearchPoint<Segment>,
     dropped: &[FileName],
     files: &mut FileDeleter,
     dir: &mut D,

@@ -16,10 +16,10 @@ ghost use Rattle.replica_state.specs.Sources.{IsSourced, HoldsOnly};
 
 use copy_job::{JobFault, Part};
 use disk_model::Dir;
-use replica_state::{Parts, PointJob, told};
+use replica_state::{PointJob, ReplicaParts, told};
 
 /// Writes a part of the job under its temporary name. After a refusal it is still missing.
-pub fn arrived<D: Dir>(parts: &mut Parts<D>, job: u64, part: Part) -> Result<(), JobFault>
+pub fn arrived<D: Dir>(parts: &mut ReplicaParts<D>, job: u64, part: Part) -> Result<(), JobFault>
     requires whole { IsWholeReplica D.cells parts.old }
     requires runs { IfSome parts.old.job (λ j. j.copy.number ≡ job) }
     requires some { IsSome parts.old.job }

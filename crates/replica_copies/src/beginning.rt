@@ -22,7 +22,7 @@ use copy_state::CopyState;
 use disk_model::Dir;
 use file_deleter::FileDeleter;
 use nrt_base::NoMemory;
-use replica_state::{Parts, PointJob, held_of, told};
+use replica_state::{PointJob, ReplicaParts, held_of, told};
 use segment_infos::{Infos, decode};
 use std::alloc::{AllocError, Global};
 
@@ -67,7 +67,7 @@ fn take_over<D: Dir>(
 /// that is held with other metadata, the first in the order of the state, is a clash. After a refusal all is as before.
 pub fn start_job<D: Dir>(
     alloc: Global,
-    parts: &mut Parts<D>,
+    parts: &mut ReplicaParts<D>,
     state: CopyState,
 ) -> Result<u64, JobFault>
     requires whole { IsWholeReplica D.cells parts.old }

@@ -20,13 +20,17 @@ use crate::parting::{Left, part_pending};
 use copy_job::JobFault;
 use disk_model::Dir;
 use nrt_base::Version;
-use replica_state::{Parts, PointJob, note_wanted, told};
+use replica_state::{PointJob, ReplicaParts, note_wanted, told};
 use std::alloc::Global;
 
 /// Searches the point of the job, of which nothing is missing, and ends the job. After a refusal the job holds what it
 /// has, the renamed parts under their own names, and the point is as before; where the disk failed, the job is stopped. A pending file that the point names belongs to the
 /// point, and one that is completed and not named is given back.
-pub fn finish<D: Dir>(alloc: Global, parts: &mut Parts<D>, job: u64) -> Result<Version, JobFault>
+pub fn finish<D: Dir>(
+    alloc: Global,
+    parts: &mut ReplicaParts<D>,
+    job: u64,
+) -> Result<Version, JobFault>
     requires whole { IsWholeReplica D.cells parts.old }
     requires runs { IfSome parts.old.job (λ j. j.copy.number ≡ job) }
     requires some { IsSome parts.old.job }

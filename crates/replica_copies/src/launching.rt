@@ -12,14 +12,14 @@ ghost use Rattle.replica_state.specs.Replica.{IsWholeReplica, AreStanding, MayLa
 use copy_job::{CopyJob, JobFault, JobKind};
 use copy_state::CopyState;
 use disk_model::Dir;
-use replica_state::{Parts, held_of, told};
+use replica_state::{ReplicaParts, held_of, told};
 use std::alloc::Global;
 
 /// Begins a copy of a merged segment, and answers its number. It fetches the files of the segment that nobody holds, and reuses
 /// the others. A file that is held with other metadata, the first in the order of the state, is a clash.
 pub fn launch_precopy<D: Dir>(
     alloc: Global,
-    parts: &mut Parts<D>,
+    parts: &mut ReplicaParts<D>,
     state: CopyState,
 ) -> Result<u64, JobFault>
     requires whole { IsWholeReplica D.cells parts.old }

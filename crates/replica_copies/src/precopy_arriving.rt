@@ -17,10 +17,14 @@ ghost use Rattle.replica_state.specs.Replica.{IsWholeReplica, AreStanding};
 
 use copy_job::{JobFault, Part};
 use disk_model::Dir;
-use replica_state::Parts;
+use replica_state::ReplicaParts;
 
 /// Writes a part of a copy of a merged segment under its temporary name. After a refusal it is still missing.
-pub fn arrived_precopy<D: Dir>(parts: &mut Parts<D>, job: u64, part: Part) -> Result<(), JobFault>
+pub fn arrived_precopy<D: Dir>(
+    parts: &mut ReplicaParts<D>,
+    job: u64,
+    part: Part,
+) -> Result<(), JobFault>
     requires whole { IsWholeReplica D.cells parts.old }
     requires runs { is_some (copy_at job parts.old.copies.running) ≡ true }
     requires missing { IfSome (copy_at job parts.old.copies.running) (λ c.

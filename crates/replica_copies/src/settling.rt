@@ -21,7 +21,7 @@ use copy_state::FileMetaData;
 use disk_model::Dir;
 use file_names::{FileName, segment_of_file};
 use nrt_base::{NoMemory, SegNo, Share};
-use replica_state::{Parts, end_copy, note_wanted};
+use replica_state::{ReplicaParts, end_copy, note_wanted};
 use std::alloc::Global;
 
 // The files with their metadata, once more.
@@ -42,7 +42,7 @@ fn shared_files(
 // The files of a copy's state, and its segment.
 fn wanted_of<D: Dir>(
     alloc: Global,
-    parts: &Parts<D>,
+    parts: &ReplicaParts<D>,
     job: u64,
 ) -> Result<(SegNo, Vec<(FileName, FileMetaData)>), NoMemory>
     requires whole { IsWholeReplica D.cells parts.now }
@@ -64,7 +64,7 @@ fn wanted_of<D: Dir>(
 }
 
 // Gives the parts of a copy their own names, in order, and ends at the first rename that is refused.
-fn place_copy<D: Dir>(alloc: Global, parts: &mut Parts<D>, job: u64) -> Result<(), JobFault>
+fn place_copy<D: Dir>(alloc: Global, parts: &mut ReplicaParts<D>, job: u64) -> Result<(), JobFault>
     requires whole { IsWholeReplica D.cells parts.old }
     requires runs { is_some (copy_at job parts.old.copies.running) ≡ true }
     requires complete { IfSome (copy_at job parts.old.copies.running) (λ c. c.missing ≡ []) }
@@ -109,7 +109,7 @@ fn place_copy<D: Dir>(alloc: Global, parts: &mut Parts<D>, job: u64) -> Result<(
 
 // The files of a copy whose parts have their own names are pending from now on. After a refusal all is as before.
 fn settle_copy<D: Dir>(
-    parts: &mut Parts<D>,
+    parts: &mut ReplicaParts<D>,
     job: u64,
     seg: SegNo,
     files: Vec<(FileName, FileMetaData)>,
@@ -143,7 +143,7 @@ fn settle_copy<D: Dir>(
 }
 
 // Ends the copy where the disk failed. Out of memory it runs on.
-fn give_up<D: Dir>(parts: &mut Parts<D>, job: u64, fault: JobFault) -> JobFault
+fn give_up<D: Dir>(parts: &mut ReplicaParts<D>, job: u64, fault: JobFault) -> JobFault
     requires whole { IsWholeReplica D.cells parts.old }
     requires runs { is_some (copy_at job parts.old.copies.running) ≡ true }
     requires fault { IsPlacingFault fault }
@@ -178,7 +178,11 @@ fn give_up<D: Dir>(parts: &mut Parts<D>, job: u64, fault: JobFault) -> JobFault
 
 /// The files of a copy of a merged segment, of which nothing is missing, get their own names and are pending from now on. Where
 /// the disk fails the copy has ended, and its parts were given back; out of memory, it runs on with what it has.
-pub fn finish_precopy<D: Dir>(alloc: Global, parts: &mut Parts<D>, job: u64) -> Result<(), JobFault>
+pub fn finish_precopy<D: Dir>(
+    alloc: Global,
+    parts: &mut ReplicaParts<D>,
+    job: u64,
+) -> Result<(), JobFault>
     requires whole { IsWholeReplica D.cells parts.old }
     requires runs { is_some (copy_at job parts.old.copies.running) ≡ true }
     requires complete { IfSome (copy_at job parts.old.copies.running) (λ c. c.missing ≡ []) }

@@ -10,7 +10,7 @@ use Rattle.disk_model.specs.Disk.{Name, Cells}
 use Rattle.copy_job.specs.Jobs.{Job, with_part}
 use Rattle.replica_state.specs.declared.job.PointJob.{PointJob}
 use Rattle.replica_state.specs.declared.merges.MergeCopies.{MergeCopies}
-use Rattle.replica_state.specs.declared.parts.Parts.{Parts}
+use Rattle.replica_state.specs.declared.parts.ReplicaParts.{ReplicaParts}
 use Rattle.replica_state.specs.Merges.{copy_at, copies_with, copies_without, CopyApart}
 use Rattle.replica_state.specs.Jobs.{stopped_job}
 use Rattle.replica_state.specs.Replica.{IsWholeReplica}
@@ -58,7 +58,7 @@ if_map : {P Q : Job → Type 0} (o : Option Job) → ((k : Job) → P k → Q k)
 if_map None turns h = tt
 if_map (Some k) turns h = turns k h
 
-module _ {D : Type 0} (number : ℕ) (old new : Parts D) where
+module _ {D : Type 0} (number : ℕ) (old new : ReplicaParts D) where
   -- the job is stopped, and nothing else moves
   pub point_kept : is_job_number number old.job ≡ true → new ≡ record old { job = option_map stopped_job old.job } → new ≡ without_job number old
   point_kept e stopped =
@@ -67,8 +67,8 @@ module _ {D : Type 0} (number : ℕ) (old new : Parts D) where
   -- the job is stopped
   pub point_gone : is_job_number number old.job ≡ true → new ≡ record old { job = option_map stopped_job old.job } → new ≡ record (without_job number old) { dir = new.dir; files = new.files }
   point_gone e stopped =
-      let dirs : old.dir ≡ new.dir = sym (ap (λ (p : Parts D). p.dir) stopped) in
-      let files : old.files ≡ new.files = sym (ap (λ (p : Parts D). p.files) stopped) in
+      let dirs : old.dir ≡ new.dir = sym (ap (λ (p : ReplicaParts D). p.dir) stopped) in
+      let files : old.files ≡ new.files = sym (ap (λ (p : ReplicaParts D). p.files) stopped) in
       stopped ∙ (λ i. record old { dir = dirs i; files = files i; job = option_map stopped_job old.job })
       ∙ sym (ap (λ (b : Bool). record (if b then record old { job = option_map stopped_job old.job } else record old { copies = record old.copies { running = copies_without number old.copies.running } }) { dir = new.dir; files = new.files }) e)
 
@@ -99,7 +99,7 @@ module _ {D : Type 0} (number : ℕ) (old new : Parts D) where
         ∙ sym (ap (λ (b : Bool). record (if b then record old { job = option_map stopped_job old.job } else record old { copies = record old.copies { running = copies_without number old.copies.running } }) { dir = new.dir; files = new.files }) e)
 
 -- ---- for those who know which one it is
-pub point_runs : {D : Type 0} (number : ℕ) (p : Parts D) (j : PointJob) → p.job ≡ Some j → j.stopped ≡ false → j.copy.number ≡ number → (running_job number p ≡ Some j.copy) × ((k : Job) → with_job number k p ≡ record p { job = Some (record j { copy = k }) }) × (without_job number p ≡ record p { job = Some (stopped_job j) })
+pub point_runs : {D : Type 0} (number : ℕ) (p : ReplicaParts D) (j : PointJob) → p.job ≡ Some j → j.stopped ≡ false → j.copy.number ≡ number → (running_job number p ≡ Some j.copy) × ((k : Job) → with_job number k p ≡ record p { job = Some (record j { copy = k }) }) × (without_job number p ≡ record p { job = Some (stopped_job j) })
 point_runs number p j e runs same =
     let test : is_job_number number p.job ≡ true = ap (is_job_number number) e ∙ and_from (not j.stopped) (j.copy.number == number) (ap not runs) (grind (arith, nat_tests, same)) in (
       ap (λ (b : Bool). if b then option_map (λ (i : PointJob). i.copy) p.job else copy_at number p.copies.running) test ∙ ap (option_map (λ (i : PointJob). i.copy)) e,
@@ -108,7 +108,7 @@ point_runs number p j e runs same =
       ap (λ (b : Bool). if b then record p { job = option_map stopped_job p.job } else record p { copies = record p.copies { running = copies_without number p.copies.running } }) test ∙ ap (λ (o : Option PointJob). record p { job = option_map stopped_job o }) e,
     )
 
-pub copy_runs : {D : Type 0} (cells : D → Cells) (number : ℕ) (p : Parts D) (c : Job) → IsWholeReplica cells p → copy_at number p.copies.running ≡ Some c
+pub copy_runs : {D : Type 0} (cells : D → Cells) (number : ℕ) (p : ReplicaParts D) (c : Job) → IsWholeReplica cells p → copy_at number p.copies.running ≡ Some c
     → (running_job number p ≡ Some c) × ((k : Job) → with_job number k p ≡ record p { copies = record p.copies { running = copies_with number k p.copies.running } })
     × (without_job number p ≡ record p { copies = record p.copies { running = copies_without number p.copies.running } })
 copy_runs cells number p c is e =

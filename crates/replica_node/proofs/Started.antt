@@ -18,7 +18,7 @@ use Rattle.searcher_switch.specs.Tickets.{ticket_names}
 use Rattle.searcher_switch.specs.Searching.{searcher_names}
 use Rattle.replica_state.specs.Given.{IsLasting, FindsPoint, number_of_last, Opened, IsNodeOpened, IsHandedBack}
 use Rattle.replica_state.specs.declared.merges.MergeCopies.{MergeCopies}
-use Rattle.replica_state.specs.declared.parts.Parts.{Parts}
+use Rattle.replica_state.specs.declared.parts.ReplicaParts.{ReplicaParts}
 use Rattle.replica_state.specs.Merges.{no_copies}
 use Rattle.replica_state.specs.Sources.{IsSourced}
 use Rattle.replica_state.proofs.Named.{among_file, some_among}
@@ -188,7 +188,7 @@ module _ {D : Type 0} (cells : D → Cells) (dir : D) (o : Opened) (node : IsWho
         ]
 
 -- ---- as an opening makes the copies
-abbrev opened_parts : {D : Type 0} → D → Opened → Gen → MergeCopies → Parts D
+abbrev opened_parts : {D : Type 0} → D → Opened → Gen → MergeCopies → ReplicaParts D
 opened_parts dir o seen copies = record { dir = dir; files = o.files; searchers = o.searchers; commits = o.commits; infos = o.infos; segs = o.segs; seen = seen; jobs = 0; job = None; copies = copies; known = o.known }
 
 module _ {D : Type 0} (cells : D → Cells) (dir : D) (o : Opened) (node : IsWholeNode (cells dir) o.files (searcher_names o.searchers) o.commits) (is : IsNodeOpened (reads_of (cells dir)) o) (seen : Gen) (copies : MergeCopies) (empty : copies ≡ no_copies) where

@@ -20,7 +20,7 @@ ghost use Rattle.replica_node.specs.Running.{is_job_number, running_job, with_jo
 use copy_job::{CopyJob, JobFault, Part};
 use disk_model::Dir;
 use replica_copies::{arrived, arrived_precopy, end_copy, stop_job};
-use replica_state::{Parts, PointJob};
+use replica_state::{PointJob, ReplicaParts};
 
 // The copy of a job of a newer point, where it runs.
 fn copy_of(point: &PointJob) -> Option<&CopyJob>
@@ -45,7 +45,7 @@ pub fn running_of(job: &Option<PointJob>) -> Option<&CopyJob>
 }
 
 // Whether the job of a newer point runs and has this number.
-fn copies_point<D: Dir>(parts: &Parts<D>, job: u64) -> bool
+fn copies_point<D: Dir>(parts: &ReplicaParts<D>, job: u64) -> bool
     ensures { result ≡ is_job_number job parts.now.job }
 {
     match &parts.job {
@@ -55,7 +55,7 @@ fn copies_point<D: Dir>(parts: &Parts<D>, job: u64) -> bool
 }
 
 /// Writes a part of a job or of a copy of a merged segment under its temporary name. After a refusal it is still missing.
-pub fn arrive<D: Dir>(parts: &mut Parts<D>, job: u64, part: Part) -> Result<(), JobFault>
+pub fn arrive<D: Dir>(parts: &mut ReplicaParts<D>, job: u64, part: Part) -> Result<(), JobFault>
     requires whole { IsWholeReplica D.cells parts.old }
     requires runs { IsSome (running_job job parts.old) }
     requires missing { IfSome (running_job job parts.old) (λ j. 0 < times j.missing part.name) }
@@ -96,7 +96,7 @@ pub fn arrive<D: Dir>(parts: &mut Parts<D>, job: u64, part: Part) -> Result<(), 
 
 /// Stops a job, which keeps what it has and makes no call of the disk, or ends a copy of a merged segment, which gives back what
 /// it held, by one release.
-pub fn end<D: Dir>(parts: &mut Parts<D>, job: u64)
+pub fn end<D: Dir>(parts: &mut ReplicaParts<D>, job: u64)
     requires whole { IsWholeReplica D.cells parts.old }
     requires runs { IsSome (running_job job parts.old) }
     ensures whole { IsWholeReplica D.cells parts.new }

@@ -16,7 +16,7 @@ ghost use Rattle.copy_job.specs.Jobs.{Job, reads_under};
 ghost use Rattle.replica_state.specs.Given.{IsLasting, HasMeta, AreReaders, IsSettledOn};
 ghost use Rattle.replica_state.specs.Jobs.{stopped_job, IsStartingFault};
 ghost use Rattle.replica_state.specs.declared.job.PointJob.{PointJob};
-ghost use Rattle.replica_state.specs.declared.parts.Parts.{Parts};
+ghost use Rattle.replica_state.specs.declared.parts.ReplicaParts.{ReplicaParts};
 ghost use Rattle.replica_state.specs.Merges.{copy_at, copies_with, copies_without};
 ghost use Rattle.replica_state.specs.Replica.{IsWholeReplica};
 ghost use Rattle.replica_state.specs.Sources.{CopiesFrom};
@@ -58,7 +58,7 @@ pub fn sourced_stands()
 
 /// Where the job of a newer point has the number, it is the one that the calls by number are about.
 pub fn point_runs<D>()
-    ensures { (number : ℕ) (p : Parts D) (j : PointJob) → p.job ≡ Some j → j.stopped ≡ false
+    ensures { (number : ℕ) (p : ReplicaParts D) (j : PointJob) → p.job ≡ Some j → j.stopped ≡ false
         → j.copy.number ≡ number → (running_job number p ≡ Some j.copy)
         × ((k : Job) → with_job number k p ≡ record p { job = Some (record j { copy = k }) })
         × (without_job number p ≡ record p { job = Some (stopped_job j) }) }
@@ -66,7 +66,7 @@ pub fn point_runs<D>()
 
 /// Where a copy of a merged segment has the number, it is the one that the calls by number are about.
 pub fn copy_runs<D>()
-    ensures { (cells : D → Cells) (number : ℕ) (p : Parts D) (c : Job) → IsWholeReplica cells p
+    ensures { (cells : D → Cells) (number : ℕ) (p : ReplicaParts D) (c : Job) → IsWholeReplica cells p
         → copy_at number p.copies.running ≡ Some c
         → (running_job number p ≡ Some c)
         × ((k : Job) → with_job number k p ≡ record p {

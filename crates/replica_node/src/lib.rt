@@ -6,4 +6,4 @@ pub mod laws;
 mod replica;
 
 pub use replica::{Refused, Replica};
-pub use replica_state::{NodeParts, Parts, PointAnswer, PointJob, StartFault};
+pub use replica_state::{NodeParts, PointAnswer, PointJob, ReplicaParts, StartFault};

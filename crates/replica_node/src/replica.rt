@@ -31,7 +31,9 @@ use replica_copies::{
     Lease, Ticket, acquire, commit_begin, commit_step, finish, finish_precopy, into_dir,
     launch_precopy, lease, new_point, plan, release, start_job, stop_at, take_apart,
 };
-use replica_state::{MergeCopies, NodeParts, Parts, PointAnswer, RunningCopies, StartFault, open};
+use replica_state::{
+    MergeCopies, NodeParts, PointAnswer, ReplicaParts, RunningCopies, StartFault, open,
+};
 use seg_reader::Segment;
 use std::alloc::Global;
 use std::marker::Model;
@@ -44,7 +46,7 @@ pub struct Refused<D> {
 }
 
 // The parts of a replica that is opened on a directory.
-fn start<D: Dir>(alloc: Global, dir: D) -> Result<Parts<D>, Refused<D>>
+fn start<D: Dir>(alloc: Global, dir: D) -> Result<ReplicaParts<D>, Refused<D>>
     requires { IsSettledOn (D.cells dir) }
     // Where it stands, what it searches, and what it holds.
     ensures whole { IfOk result (IsWholeReplica D.cells) }
@@ -75,7 +77,7 @@ fn start<D: Dir>(alloc: Global, dir: D) -> Result<Parts<D>, Refused<D>>
     match open(alloc, &mut dir) {
         Ok(opened) => {
             let seen = opened.infos.generation;
-            Ok(Parts {
+            Ok(ReplicaParts {
                 dir,
                 files: opened.files,
                 searchers: opened.searchers,
@@ -99,14 +101,14 @@ fn start<D: Dir>(alloc: Global, dir: D) -> Result<Parts<D>, Refused<D>>
 /// A replica over a directory, seen as its parts, and whole by its type.
 #[derive(Drop)]
 pub struct Replica<D: Dir> {
-    parts: Parts<D>,
+    parts: ReplicaParts<D>,
 }
 
 impl<D: Dir> Model for Replica<D> {
-    ghost use Rattle.replica_state.specs.declared.parts.Parts.{Parts};
+    ghost use Rattle.replica_state.specs.declared.parts.ReplicaParts.{ReplicaParts};
     ghost use Rattle.replica_state.specs.Replica.{IsWholeReplica};
 
-    ghost Value = { Parts D };
+    ghost Value = { ReplicaParts D };
 
     ghost view = { λ r. r.parts };
 

@@ -34,7 +34,7 @@ use Rattle.commit_steps.specs.Flights.{IsCommit}
 use Rattle.commit_steps.specs.Commits.{HasFilesOf, ImagesShow, ImagesShowNothing}
 use Rattle.commit_steps.specs.declared.stage.CommitBook.{CommitBook}
 use Rattle.commit_steps.proofs.Recovered.{whole_there}
-use Rattle.searcher_switch.specs.declared.open.Point.{Point}
+use Rattle.searcher_switch.specs.declared.open.SearchPoint.{SearchPoint}
 use Rattle.searcher_switch.specs.declared.open.Open.{Open}
 use Rattle.searcher_switch.specs.declared.searchers.Searchers.{Searchers}
 use Rattle.searcher_switch.specs.Tickets.{ticket_names}
@@ -139,7 +139,7 @@ times_front names rest q e = times-append names rest q ∙ ap (λ (ns : List Nam
 new_names : (s : Searchers Shown) (version : Version) (names : List Name) (readers : List Shown) → s.point ≡ record { version = version; names = names; readers = readers } → s.tickets ≡ []
     → (q : Name) → times (searcher_names s) q ≡ times names q
 new_names s version names readers point none q =
-    ap (λ (p : Point Shown). times (p.names ++ ticket_names s.tickets) q) point ∙ times_front names (ticket_names s.tickets) q (ap (λ (ts : List (Open Shown)). ticket_names ts) none)
+    ap (λ (p : SearchPoint Shown). times (p.names ++ ticket_names s.tickets) q) point ∙ times_front names (ticket_names s.tickets) q (ap (λ (ts : List (Open Shown)). ticket_names ts) none)
 
 pub plain_none : (infos : Infos) (names : List Name) → AreFilesOf infos names → (q : Name) → is_pending_name q ≡ true → times names q ≡ 0
 plain_none infos names are q named = by (is_among names q) refl
@@ -169,15 +169,15 @@ pub taken : (cells : Cells) (found : Found) (listed slice : List Name) (t : File
     → IsTaken cells (record { opened = record { files = t.files; searchers = s; commits = t.commits; infos = found.infos; segs = found.read.segs; known = found.read.known }; listed = listed })
 taken cells found listed slice t s same listed_is f is point tickets =
     let names = new_names s found.infos.version found.names found.read.segs point tickets in
-    let readers_are : s.point.readers ≡ found.read.segs = ap (λ (p : Point Shown). p.readers) point in
+    let readers_are : s.point.readers ≡ found.read.segs = ap (λ (p : SearchPoint Shown). p.readers) point in
     record {
       opened = record {
         finds = subst (λ (n : Option ℕ). FindsPoint (reads_of cells) n found.infos) (sym is.last) f.finds;
         none = is.stage;
         last = is.commit;
         spelled = f.spelled;
-        version = ap (λ (p : Point Shown). p.version) point;
-        names = subst (λ (p : Point Shown). AreFilesOf found.infos p.names) (sym point) f.names;
+        version = ap (λ (p : SearchPoint Shown). p.version) point;
+        names = subst (λ (p : SearchPoint Shown). AreFilesOf found.infos p.names) (sym point) f.names;
         there = f.there;
         readers = subst (λ (ss : List Shown). AreReaders (reads_of cells) found.infos.segs ss) (sym readers_are) f.readers;
         segs = sym readers_are;

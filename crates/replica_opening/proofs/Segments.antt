@@ -4,8 +4,8 @@ use Rattle.std.specs.Prelude.{slice_get}
 use Rattle.seg_reader.specs.declared.parts.SegFault.{SegFault}
 use Rattle.seg_reader.specs.declared.parts.SegFault.TheVariants.{Memory as SegMemory, File, Disagrees}
 use Rattle.seg_reader.specs.Faults.{IsSegmentFault}
-use Rattle.replica_opening.specs.declared.reading.ReadFault.{ReadFault}
-use Rattle.replica_opening.specs.declared.reading.ReadFault.TheVariants.{Refused}
+use Rattle.replica_opening.specs.declared.reading.LoadFault.{LoadFault}
+use Rattle.replica_opening.specs.declared.reading.LoadFault.TheVariants.{Refused}
 use Rattle.nrt_base.specs.declared.numbers.SegNo.{SegNo}
 use Rattle.replica_opening.specs.Reading.{IsReadCutOff, IsReadRefusal, IsReadCutOffOr, refusal_of}
 use Rattle.std.specs.List.{AllZip, Contains, flat_map}
@@ -77,7 +77,7 @@ first_refused a b records i d old (Segment seg fault) same lt was h = (
 )
 
 -- ---- a segment that is not read
-pub refused_is : (reads : Name → Content) (r : SegRecord) (parts : SegParts) (fault : SegFault) (why : ReadFault) → ArePartsIn reads r parts → (fault ≡ SegMemory) ⊎ IsSegmentFault parts r fault → why ≡ refusal_of fault → IsReadRefusal reads r why
+pub refused_is : (reads : Name → Content) (r : SegRecord) (parts : SegParts) (fault : SegFault) (why : LoadFault) → ArePartsIn reads r parts → (fault ≡ SegMemory) ⊎ IsSegmentFault parts r fault → why ≡ refusal_of fault → IsReadRefusal reads r why
 refused_is reads r parts fault why files is e = subst (IsReadRefusal reads r) (sym e) (by fault is)
   where
     by : (f : SegFault) → (f ≡ SegMemory) ⊎ IsSegmentFault parts r f → IsReadRefusal reads r (refusal_of f)
@@ -88,7 +88,7 @@ refused_is reads r parts fault why files is e = subst (IsReadRefusal reads r) (s
     by (Disagrees part want found) (inr h) = record { parts = parts; files = files; refused = h }
 
 -- where files are those of a segment, only want of memory and a failure of the disk come
-pub cut_off : (reads : Name → Content) (r : SegRecord) (parts : SegParts) (shown : Shown) (fault : SegFault) (why : ReadFault) → ArePartsIn reads r parts → IsSegmentIn reads r shown
+pub cut_off : (reads : Name → Content) (r : SegRecord) (parts : SegParts) (shown : Shown) (fault : SegFault) (why : LoadFault) → ArePartsIn reads r parts → IsSegmentIn reads r shown
     → (IsSegmentOf parts r shown → ◌⊎◌ (◌≡◌ {A = Result Shown SegFault} (Err fault) (Err SegMemory)) (◌≡◌ {A = Result Shown SegFault} (Err fault) (Ok shown))) → why ≡ refusal_of fault → IsReadCutOff why
 cut_off reads r parts shown fault why files is each e =
     subst IsReadCutOff (sym e) (by fault (each (subst (λ (p : SegParts). IsSegmentOf p r shown) (one_parts reads r is.parts parts is.files files) is.segment)))
@@ -101,7 +101,7 @@ cut_off reads r parts shown fault why files is each e =
     by (Disagrees part want found) (inr h) = cc
 
 -- where files are refused, the refusal is answered, or the reading was cut off
-pub refused_so : (reads : Name → Content) (r : SegRecord) (parts : SegParts) (due given : SegFault) (why : ReadFault) → ArePartsIn reads r parts → IsRefusedIn reads r due
+pub refused_so : (reads : Name → Content) (r : SegRecord) (parts : SegParts) (due given : SegFault) (why : LoadFault) → ArePartsIn reads r parts → IsRefusedIn reads r due
     → (IsSegmentFault parts r due → ◌⊎◌ (◌≡◌ {A = Result Shown SegFault} (Err given) (Err SegMemory)) (◌≡◌ {A = Result Shown SegFault} (Err given) (Err due))) → why ≡ refusal_of given → IsReadCutOffOr due why
 refused_so reads r parts due given why files is each e =
     let refused : IsSegmentFault parts r due = subst (λ (p : SegParts). IsSegmentFault p r due) (one_parts reads r is.parts parts is.files files) is.refused in
@@ -157,7 +157,7 @@ pub next_refused : (seg : SegNo) (due given : SegFault) → IsReadCutOffOr due (
 next_refused seg due given (inl h) = absurd h
 next_refused seg due given (inr e) = inr (same_segment e)
   where
-    same_segment : ◌≡◌ {A = ReadFault} (Refused given) (Refused due) → ◌≡◌ {A = StartFault} (Segment seg given) (Segment seg due)
+    same_segment : ◌≡◌ {A = LoadFault} (Refused given) (Refused due) → ◌≡◌ {A = StartFault} (Segment seg given) (Segment seg due)
     same_segment same = cc
 
 -- ---- the first refused segment, place by place

@@ -13,7 +13,7 @@ pub use commit_steps::CommitBook;
 pub use fault::StartFault;
 pub use known::Known;
 pub use opening::{Opened, open};
-pub use reading::{ReadFault, SegmentRead, read_segment};
+pub use reading::{LoadFault, SegmentRead, read_segment};
 pub use searcher_switch::Searchers;
 pub use seg_reader::Segment;
 pub use sharing::readers_of;

@@ -25,7 +25,7 @@ ghost use Rattle.replica_opening.specs.Opened.{IsOpeningPoint, IsFoundPoint, IsS
 use crate::clearing::clear;
 use crate::fault::StartFault;
 use crate::known::{Known, note_parts};
-use crate::reading::{ReadFault, SegmentRead, read_segment};
+use crate::reading::{LoadFault, SegmentRead, read_segment};
 use commit_steps::{CommitBook, RecoverFault, recover};
 use disk_model::{Dir, DirFault};
 use file_deleter::FileDeleter;
@@ -98,9 +98,9 @@ fn read_next<D: Dir>(
                 Err(_) => Err(StartFault::Memory),
             }
         }
-        Err(ReadFault::Memory) => Err(StartFault::Memory),
-        Err(ReadFault::Failed) => Err(StartFault::Failed),
-        Err(ReadFault::Refused(fault)) => Err(StartFault::Segment(record.seg, fault)),
+        Err(LoadFault::Memory) => Err(StartFault::Memory),
+        Err(LoadFault::Failed) => Err(StartFault::Failed),
+        Err(LoadFault::Refused(fault)) => Err(StartFault::Segment(record.seg, fault)),
     }
 }
 

@@ -23,7 +23,7 @@ use thiserror::Error;
 
 /// Why a segment is not read.
 #[derive(Clone, Copy, Debug, PartialEq, Eq, Error)]
-pub enum ReadFault {
+pub enum LoadFault {
     /// Out of memory.
     #[error("out of memory")]
     Memory,
@@ -36,30 +36,30 @@ pub enum ReadFault {
 }
 
 // The bytes of a file that is there.
-fn load<D: Dir>(name: &FileName, dir: &mut D) -> Result<Bytes, ReadFault>
+fn load<D: Dir>(name: &FileName, dir: &mut D) -> Result<Bytes, LoadFault>
     requires { IsThere (D.cells dir.old) name.now }
     ensures bytes { IfOk result (λ bytes. (D.cells dir.old name.now).now ≡ Some bytes) }
     ensures err { IfErr result IsReadCutOff }
     ensures cells { D.cells dir.new ≡ D.cells dir.old }
-    ensures failed { IsErrOf result ReadFault.Failed → Rose (D.faults dir.old) (D.faults dir.new) }
+    ensures failed { IsErrOf result LoadFault.Failed → Rose (D.faults dir.old) (D.faults dir.new) }
     ensures later { D.faults dir.old ≤ D.faults dir.new }
 {
     match dir.load(name) {
         Ok(bytes) => Ok(bytes),
-        Err(DirFault::Memory) => Err(ReadFault::Memory),
-        Err(DirFault::Failed) => Err(ReadFault::Failed),
+        Err(DirFault::Memory) => Err(LoadFault::Memory),
+        Err(DirFault::Failed) => Err(LoadFault::Failed),
         Err(DirFault::Missing | DirFault::Exists) => unreachable!(),
     }
 }
 
 // The live file of a segment, where it has one.
-fn load_live<D: Dir>(record: &SegRecord, dir: &mut D) -> Result<Option<Bytes>, ReadFault>
+fn load_live<D: Dir>(record: &SegRecord, dir: &mut D) -> Result<Option<Bytes>, LoadFault>
     requires { (q : List ℕ) → Contains (files_of_segment record.now) q
         → IsThere (D.cells dir.old) q }
     ensures live { IfOk result (IsLiveFileIn (reads_of (D.cells dir.old)) record.now) }
     ensures err { IfErr result IsReadCutOff }
     ensures cells { D.cells dir.new ≡ D.cells dir.old }
-    ensures failed { IsErrOf result ReadFault.Failed → Rose (D.faults dir.old) (D.faults dir.new) }
+    ensures failed { IsErrOf result LoadFault.Failed → Rose (D.faults dir.old) (D.faults dir.new) }
     ensures later { D.faults dir.old ≤ D.faults dir.new }
 {
     if record.live_gen == 0 {
@@ -72,13 +72,13 @@ fn load_live<D: Dir>(record: &SegRecord, dir: &mut D) -> Result<Option<Bytes>, R
 }
 
 // The files of a segment.
-fn load_parts<D: Dir>(record: &SegRecord, dir: &mut D) -> Result<SegParts, ReadFault>
+fn load_parts<D: Dir>(record: &SegRecord, dir: &mut D) -> Result<SegParts, LoadFault>
     requires { (q : List ℕ) → Contains (files_of_segment record.now) q
         → IsThere (D.cells dir.old) q }
     ensures parts { IfOk result (ArePartsIn (reads_of (D.cells dir.old)) record.now) }
     ensures err { IfErr result IsReadCutOff }
     ensures cells { D.cells dir.new ≡ D.cells dir.old }
-    ensures failed { IsErrOf result ReadFault.Failed → Rose (D.faults dir.old) (D.faults dir.new) }
+    ensures failed { IsErrOf result LoadFault.Failed → Rose (D.faults dir.old) (D.faults dir.new) }
     ensures later { D.faults dir.old ≤ D.faults dir.new }
 {
     let docs = load(&part_name(record.seg, SegPart::Docs), dir)?;
@@ -126,12 +126,12 @@ fn share_parts(alloc: Global, parts: &SegParts) -> Result<SegParts, NoMemory>
 }
 
 // Why a segment is not read.
-fn refusal(fault: SegFault) -> ReadFault
+fn refusal(fault: SegFault) -> LoadFault
     ensures { result ≡ refusal_of fault }
 {
     match fault {
-        SegFault::Memory => ReadFault::Memory,
-        fault => ReadFault::Refused(fault),
+        SegFault::Memory => LoadFault::Memory,
+        fault => LoadFault::Refused(fault),
     }
 }
 
@@ -140,7 +140,7 @@ pub fn read_segment<D: Dir>(
     alloc: Global,
     record: &SegRecord,
     dir: &mut D,
-) -> Result<SegmentRead, ReadFault>
+) -> Result<SegmentRead, LoadFault>
     requires record { IsRecord record.now }
     requires there { (q : List ℕ) → Contains (files_of_segment record.now) q
         → IsThere (D.cells dir.old) q }
@@ -157,7 +157,7 @@ pub fn read_segment<D: Dir>(
 
     // What stays, and when the disk failed.
     ensures cells { D.cells dir.new ≡ D.cells dir.old }
-    ensures failed { IsErrOf result ReadFault.Failed → Rose (D.faults dir.old) (D.faults dir.new) }
+    ensures failed { IsErrOf result LoadFault.Failed → Rose (D.faults dir.old) (D.faults dir.new) }
     ensures later { D.faults dir.old ≤ D.faults dir.new }
 {
     let parts = match load_parts(record, dir) {
@@ -165,7 +165,7 @@ pub fn read_segment<D: Dir>(
         Err(fault) => return Err(fault),
     };
     let Ok(copy) = share_parts(alloc, &parts) else {
-        return Err(ReadFault::Memory);
+        return Err(LoadFault::Memory);
     };
     match Segment::from_parts(alloc, copy, record) {
         Ok(segment) => Ok(SegmentRead { segment, parts }),

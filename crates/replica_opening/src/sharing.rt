@@ -12,7 +12,7 @@ ghost use Rattle.replica_opening.specs.Reading.{IsReadCutOff};
 ghost use Rattle.replica_opening.specs.Opening.{IsReadNext};
 ghost use Rattle.replica_opening.specs.Places.{NotesPlace, ArePlaces};
 
-use crate::reading::{ReadFault, read_segment};
+use crate::reading::{LoadFault, read_segment};
 use disk_model::Dir;
 use indexmap::IndexMap;
 use nrt_base::{NoMemory, Share};
@@ -83,7 +83,7 @@ fn reader_of<D: Dir>(
     places: &Places,
     readers: &[Segment],
     dir: &mut D,
-) -> Result<Segment, ReadFault>
+) -> Result<Segment, LoadFault>
     requires record { IsRecord record.now }
     requires places { ArePlaces olds.now places.now.entries }
     requires readers { AreReaders (reads_of (D.cells dir.old)) olds.now readers.now }
@@ -91,7 +91,7 @@ fn reader_of<D: Dir>(
     ensures segment { IfOk result (IsSegmentIn (reads_of (D.cells dir.old)) record.now) }
     ensures fault { IfErr result IsReadCutOff }
     ensures cells { D.cells dir.new ≡ D.cells dir.old }
-    ensures failed { IsErrOf result ReadFault.Failed → Rose (D.faults dir.old) (D.faults dir.new) }
+    ensures failed { IsErrOf result LoadFault.Failed → Rose (D.faults dir.old) (D.faults dir.new) }
     ensures later { D.faults dir.old ≤ D.faults dir.new }
 
     // An unchanged segment is not read again.
@@ -101,7 +101,7 @@ fn reader_of<D: Dir>(
     match place_of(olds, places, record) {
         Some(at) => match share_at(alloc, readers, at) {
             Ok(reader) => Ok(reader),
-            Err(_) => Err(ReadFault::Memory),
+            Err(_) => Err(LoadFault::Memory),
         },
         None => match read_segment(alloc, record, dir) {
             Ok(read) => Ok(read.segment),
@@ -119,7 +119,7 @@ fn next_reader<D: Dir>(
     readers: &[Segment],
     segs: &mut Vec<Segment>,
     dir: &mut D,
-) -> Result<(), ReadFault>
+) -> Result<(), LoadFault>
     requires record { IsRecord record.now }
     requires places { ArePlaces olds.now places.now.entries }
     requires readers { AreReaders (reads_of (D.cells dir.old)) olds.now readers.now }
@@ -128,7 +128,7 @@ fn next_reader<D: Dir>(
         segs.old.items segs.new.items) }
     ensures fault { IfErr result IsReadCutOff }
     ensures cells { D.cells dir.new ≡ D.cells dir.old }
-    ensures failed { IsErrOf result ReadFault.Failed → Rose (D.faults dir.old) (D.faults dir.new) }
+    ensures failed { IsErrOf result LoadFault.Failed → Rose (D.faults dir.old) (D.faults dir.new) }
     ensures later { D.faults dir.old ≤ D.faults dir.new }
 {
     let reader = match reader_of(alloc, record, olds, places, readers, dir) {
@@ -136,7 +136,7 @@ fn next_reader<D: Dir>(
         Err(fault) => return Err(fault),
     };
     let Ok(()) = segs.push(reader) else {
-        return Err(ReadFault::Memory);
+        return Err(LoadFault::Memory);
     };
     Ok(())
 }
@@ -149,7 +149,7 @@ pub fn readers_of<D: Dir>(
     olds: &[SegRecord],
     readers: &[Segment],
     dir: &mut D,
-) -> Result<Vec<Segment>, ReadFault>
+) -> Result<Vec<Segment>, LoadFault>
     requires records { All IsRecord records.now }
     requires apart { AllPairs (λ r s. r.seg.0 ≢ s.seg.0) olds.now }
     requires readers { AreReaders (reads_of (D.cells dir.old)) olds.now readers.now }
@@ -158,11 +158,11 @@ pub fn readers_of<D: Dir>(
         AreReaders (reads_of (D.cells dir.old)) records.now segs.items) }
     ensures fault { IfErr result IsReadCutOff }
     ensures cells { D.cells dir.new ≡ D.cells dir.old }
-    ensures failed { IsErrOf result ReadFault.Failed → Rose (D.faults dir.old) (D.faults dir.new) }
+    ensures failed { IsErrOf result LoadFault.Failed → Rose (D.faults dir.old) (D.faults dir.new) }
     ensures later { D.faults dir.old ≤ D.faults dir.new }
 {
     let Ok(places) = places_of(alloc, olds) else {
-        return Err(ReadFault::Memory);
+        return Err(LoadFault::Memory);
     };
     let mut segs = Vec::new(alloc);
     for record in records {

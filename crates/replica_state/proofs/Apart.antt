@@ -16,7 +16,7 @@ use Rattle.searcher_switch.proofs.Standing.{stands_along}
 use Rattle.searcher_switch.specs.Tickets.{ticket_names}
 use Rattle.searcher_switch.specs.Searching.{searcher_names}
 use Rattle.replica_state.specs.declared.job.PointJob.{PointJob}
-use Rattle.replica_state.specs.declared.parts.Parts.{Parts}
+use Rattle.replica_state.specs.declared.parts.ReplicaParts.{ReplicaParts}
 use Rattle.replica_state.specs.declared.merges.MergeCopies.{MergeCopies}
 use Rattle.replica_state.specs.Merges.{copies_names, no_copies}
 use Rattle.replica_state.specs.Replica.{IsWholeReplica, names_of_job, copying_names, replica_names}
@@ -24,7 +24,7 @@ use Rattle.replica_state.proofs.Named.{file_counted}
 use Rattle.replica_state.proofs.Documents.{readers_search}
 
 -- without copies, the searchers alone hold files beside the commits
-pub node_apart : {D : Type 0} (cells : D → Cells) (p : Parts D) → IsWholeReplica cells p → p.job ≡ None → p.copies ≡ no_copies → IsWholeNode (cells p.dir) p.files (searcher_names p.searchers) p.commits
+pub node_apart : {D : Type 0} (cells : D → Cells) (p : ReplicaParts D) → IsWholeReplica cells p → p.job ≡ None → p.copies ≡ no_copies → IsWholeNode (cells p.dir) p.files (searcher_names p.searchers) p.commits
 node_apart cells p is none empty = node_same_names (cells p.dir) p.files (replica_names p) (searcher_names p.searchers) p.commits is.node
     (λ q.
     let z : times (names_of_job p.job) q ≡ 0 = ap (λ (o : Option PointJob). times (names_of_job o) q) none in
@@ -36,7 +36,7 @@ pub bytes_apart : (h0 h1 h2 : Holdings) (a b c : Cells) → KeepsBytes h0 h1 a b
 bytes_apart h0 h1 h2 a b c x y fewer = record { held = λ q had has. let mid : 0 < count_of h1 q = omega (arith, has, fewer q) in y.held q mid has ∙ x.held q had mid }
 
 -- the segments at hand are of the documents of the point
-pub segs_stand : {D : Type 0} (cells : D → Cells) (p now : Parts D) → IsWholeReplica cells p → IsWholeReplica cells now → now.infos ≡ p.infos → KeepsBytes p.files now.files (cells p.dir) (cells now.dir)
+pub segs_stand : {D : Type 0} (cells : D → Cells) (p now : ReplicaParts D) → IsWholeReplica cells p → IsWholeReplica cells now → now.infos ≡ p.infos → KeepsBytes p.files now.files (cells p.dir) (cells now.dir)
     → (docs : List Doc) → StandsFor (reads_of (cells p.dir)) p.infos docs → StandsWith (reads_of (cells now.dir)) now.infos now.segs docs
 segs_stand cells p now is after same stays docs stands =
     let there : StandsFor (reads_of (cells now.dir)) p.infos docs = stands_along (reads_of (cells p.dir)) (reads_of (cells now.dir)) p.infos docs (λ q named.

@@ -14,7 +14,7 @@ use Rattle.copy_job.specs.declared.part.JobPart.{JobPart}
 use Rattle.copy_job.specs.Parts.{written_names}
 use Rattle.copy_job.proofs.Placings.{written_is}
 use Rattle.replica_state.specs.declared.job.PointJob.{PointJob}
-use Rattle.replica_state.specs.declared.parts.Parts.{Parts}
+use Rattle.replica_state.specs.declared.parts.ReplicaParts.{ReplicaParts}
 use Rattle.replica_state.specs.Sources.{IsWantedName}
 use Rattle.replica_state.specs.Waiting.{IsLoose, IsWaiting}
 use Rattle.replica_state.specs.Replica.{IsWholeReplica, IsJobAbove}
@@ -23,7 +23,7 @@ use Rattle.replica_state.proofs.Waiting.{own_wanted}
 pub only_one : (x q : Name) → is_among (x ∷ []) q ≡ true → x ≡ q
 only_one x q there = elim (or_cases (same x q) false there) [ inl here ↦ same_true x q here | inr more ↦ absurd (true≢false (sym more)) ]
 
-module _ {D : Type 0} (cells : D → Cells) (p : Parts D) (j : PointJob) (e : p.job ≡ Some j) (dir : D) (files : Holdings) where
+module _ {D : Type 0} (cells : D → Cells) (p : ReplicaParts D) (j : PointJob) (e : p.job ≡ Some j) (dir : D) (files : Holdings) where
   -- a part that arrives, or does not
   pub part_appears : (name : Name) (number : ℕ) → IfSome p.job (λ k. k.copy.number ≡ number) → KeepsFiles (temp_name_of name j.copy.number ∷ []) p.files files (cells p.dir) (cells dir)
       → AppearsOnly (λ q. q ≡ temp_name_of name number) (cells p.dir) (cells dir)

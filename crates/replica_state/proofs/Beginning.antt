@@ -26,7 +26,7 @@ use Rattle.copy_job.specs.Parts.{present_names, own_names}
 use Rattle.copy_job.specs.Jobs.{Job, IsJob, begun_job, job_names, held_names, AreAgreed, IsBeginningFault}
 use Rattle.replica_opening.specs.Known.{HasMeta, KnowsHeld, IsLasting}
 use Rattle.replica_opening.proofs.Openings.{plain_none}
-use Rattle.replica_state.specs.declared.parts.Parts.{Parts}
+use Rattle.replica_state.specs.declared.parts.ReplicaParts.{ReplicaParts}
 use Rattle.replica_state.specs.Held.{held_metas}
 use Rattle.replica_state.specs.Jobs.{job_on, Agrees, IsStartingFault}
 use Rattle.replica_state.specs.Replica.{HasMetas, IsWholeReplica}
@@ -57,7 +57,7 @@ module _ (reads : Name → Content) (holdings : Holdings) (known held : List (Na
   begun_fault fault h = starting reads holdings known knows infos (meta_names state.files) listed state.files refl fault (subst (λ (hs : List (Name × FileMetaData)). IsBeginningFault hs state.files fault) held_is h)
 
 -- ---- the replica where it has begun
-module _ {D : Type 0} (cells : D → Cells) (p : Parts D) (is : IsWholeReplica cells p) (kind : JobKind) (number : ℕ) (state : CopyState) (infos : Infos) (listed : AreFilesOf infos (meta_names state.files)) (agreed : All (Agrees (reads_of (cells p.dir)) p.files) state.files)
+module _ {D : Type 0} (cells : D → Cells) (p : ReplicaParts D) (is : IsWholeReplica cells p) (kind : JobKind) (number : ℕ) (state : CopyState) (infos : Infos) (listed : AreFilesOf infos (meta_names state.files)) (agreed : All (Agrees (reads_of (cells p.dir)) p.files) state.files)
     (copy : Job) (copy_is : copy ≡ record (job_on number state p.files) { kind = kind }) (is_job : IsJob copy) where
   pub reused_is : copy.reused ≡ filter (λ q. nat_lt 0 (count_of p.files q)) (meta_names state.files)
   reused_is = ap (λ (j : Job). j.reused) copy_is

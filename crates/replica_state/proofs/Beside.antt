@@ -21,7 +21,7 @@ use Rattle.searcher_switch.proofs.Fewer.{no_more_beside}
 use Rattle.searcher_switch.proofs.Standing.{stands_along, standing_kept}
 use Rattle.copy_state.specs.declared.meta.FileMetaData.{FileMetaData}
 use Rattle.replica_state.specs.declared.job.PointJob.{PointJob}
-use Rattle.replica_state.specs.declared.parts.Parts.{Parts}
+use Rattle.replica_state.specs.declared.parts.ReplicaParts.{ReplicaParts}
 use Rattle.replica_state.specs.Waiting.{HasNoTemporary, IsWaiting}
 use Rattle.replica_state.specs.Replica.{IsJobAbove, AreStanding, copying_names}
 use Rattle.replica_state.proofs.Named.{file_counted}
@@ -57,7 +57,7 @@ pub same_no_more : (a b : Cells) (old new : Holdings) (hs : List Name) (book : C
 same_no_more a b old new hs book node after = record { each = λ q plain other none. omega (arith, none, node.counts q, after.counts q) }
 
 -- ---- what is of documents
-module _ {D : Type 0} (cells : D → Cells) (p : Parts D) (is : IsCore cells p) where
+module _ {D : Type 0} (cells : D → Cells) (p : ReplicaParts D) (is : IsCore cells p) where
   point_held : (q : Name) → Contains (flat_map files_of_segment p.infos.segs) q → 0 < count_of p.files q
   point_held q named =
       let some : 0 < times p.searchers.point.names q = file_counted p.infos p.searchers.point.names is.point.names q named in
@@ -67,7 +67,7 @@ module _ {D : Type 0} (cells : D → Cells) (p : Parts D) (is : IsCore cells p) 
   book_held q there = omega (arith, among_times (book_names p.commits) q there, is.node.counts q)
 
 -- calls that leave the point and the commits as they are, and the bytes of what is held
-pub standing_on : {D : Type 0} (cells : D → Cells) (p now : Parts D) → IsCore cells p → IsCore cells now → now.infos ≡ p.infos → now.commits ≡ p.commits → KeepsBytes p.files now.files (cells p.dir) (cells now.dir)
+pub standing_on : {D : Type 0} (cells : D → Cells) (p now : ReplicaParts D) → IsCore cells p → IsCore cells now → now.infos ≡ p.infos → now.commits ≡ p.commits → KeepsBytes p.files now.files (cells p.dir) (cells now.dir)
     → AreStanding cells p → AreStanding cells now
 standing_on cells p now is after infos commits stays h = record {
   point = subst (λ (i : Infos). StandsForSome (reads_of (cells now.dir)) i) (sym infos) (record {
@@ -80,10 +80,10 @@ standing_on cells p now is after infos commits stays h = record {
       (λ q there. stays.held q (book_held cells p is q there) (book_held cells now after q (subst (λ (b : CommitBook). is_among (book_names b) q ≡ true) (sym commits) there))) h.commits);
 }
 
-pub standing_jobs : {D : Type 0} (cells : D → Cells) (p : Parts D) → IsCore cells p → (dir : D) (files : Holdings) (job : Option PointJob) (known : List (Name × FileMetaData)) → IsCore cells (record p { dir = dir; files = files; job = job; known = known })
+pub standing_jobs : {D : Type 0} (cells : D → Cells) (p : ReplicaParts D) → IsCore cells p → (dir : D) (files : Holdings) (job : Option PointJob) (known : List (Name × FileMetaData)) → IsCore cells (record p { dir = dir; files = files; job = job; known = known })
     → ((q : Name) → 0 < count_of p.files q → 0 < count_of files q → (cells dir q).now ≡ (cells p.dir q).now) → AreStanding cells p → AreStanding cells (record p { dir = dir; files = files; job = job; known = known })
 standing_jobs cells p is dir files job known after reads h = standing_on cells p (record p { dir = dir; files = files; job = job; known = known }) is after refl refl (record { held = reads }) h
 
-pub standing_searched : {D : Type 0} (cells : D → Cells) (p : Parts D) → IsCore cells p → (dir : D) (files : Holdings) (searchers : Searchers Shown) → IsCore cells (record p { dir = dir; files = files; searchers = searchers })
+pub standing_searched : {D : Type 0} (cells : D → Cells) (p : ReplicaParts D) → IsCore cells p → (dir : D) (files : Holdings) (searchers : Searchers Shown) → IsCore cells (record p { dir = dir; files = files; searchers = searchers })
     → ((q : Name) → 0 < count_of p.files q → 0 < count_of files q → (cells dir q).now ≡ (cells p.dir q).now) → AreStanding cells p → AreStanding cells (record p { dir = dir; files = files; searchers = searchers })
 standing_searched cells p is dir files searchers after reads h = standing_on cells p (record p { dir = dir; files = files; searchers = searchers }) is after refl refl (record { held = reads }) h

@@ -7,10 +7,10 @@ use Rattle.seg_reader.specs.Shown.{Shown}
 use Rattle.commit_steps.specs.declared.stage.CommitBook.{CommitBook}
 use Rattle.commit_steps.specs.Book.{book_names, book_after, HasBegun, IsBookSound}
 use Rattle.searcher_switch.specs.Node.{AddsOnly, KeepsBytes}
-use Rattle.searcher_switch.specs.declared.open.Point.{Point}
+use Rattle.searcher_switch.specs.declared.open.SearchPoint.{SearchPoint}
 use Rattle.searcher_switch.specs.declared.searchers.Searchers.{Searchers}
 use Rattle.searcher_switch.specs.Searching.{searcher_names}
-use Rattle.replica_state.specs.declared.parts.Parts.{Parts}
+use Rattle.replica_state.specs.declared.parts.ReplicaParts.{ReplicaParts}
 use Rattle.replica_state.specs.Sources.{KeepsSource, HoldsOnly}
 use Rattle.replica_state.specs.Replica.{IsWholeReplica}
 use Rattle.replica_state.proofs.Carried.{HoldsNoOther, no_other}
@@ -20,7 +20,7 @@ use Rattle.replica_state.proofs.Keeping.{core_of, whole_beside, sourced_beside, 
 use Rattle.replica_state.proofs.Planned.{planned}
 use Rattle.replica_state.proofs.Searched.{searched, searched_only}
 
-module _ {D : Type 0} (cells : D → Cells) (p : Parts D) (is : IsWholeReplica cells p) where
+module _ {D : Type 0} (cells : D → Cells) (p : ReplicaParts D) (is : IsWholeReplica cells p) where
   -- ---- tickets
   module _ (dir : D) (files : Holdings) (searchers : Searchers Shown) (moves : MovesCounts [] (searcher_names p.searchers) (searcher_names searchers) p.files files (cells p.dir) (cells dir))
       (only : AddsOnly [] (searcher_names p.searchers) (searcher_names searchers)) (same : searchers.point ≡ p.searchers.point) where
@@ -34,7 +34,7 @@ module _ {D : Type 0} (cells : D → Cells) (p : Parts D) (is : IsWholeReplica c
     searched_bytes = record { held = moves.keeps.reads }
 
     pub searched_whole : IsWholeReplica cells (record p { dir = dir; files = files; searchers = searchers })
-    searched_whole = whole_beside cells p (record p { dir = dir; files = files; searchers = searchers }) is searched_core refl refl searched_other searched_bytes refl refl (ap (λ (x : Point Shown). x.readers) same) refl
+    searched_whole = whole_beside cells p (record p { dir = dir; files = files; searchers = searchers }) is searched_core refl refl searched_other searched_bytes refl refl (ap (λ (x : SearchPoint Shown). x.readers) same) refl
 
     pub searched_sourced : KeepsSource cells p (record p { dir = dir; files = files; searchers = searchers })
     searched_sourced = sourced_beside cells p (record p { dir = dir; files = files; searchers = searchers }) is searched_core refl refl searched_other searched_bytes

@@ -13,7 +13,7 @@ use Rattle.copy_state.specs.States.{meta_names}
 use Rattle.copy_job.specs.Jobs.{Job, job_names, IsJob}
 use Rattle.replica_state.specs.declared.job.PointJob.{PointJob}
 use Rattle.replica_state.specs.declared.merges.MergeCopies.{MergeCopies}
-use Rattle.replica_state.specs.declared.parts.Parts.{Parts}
+use Rattle.replica_state.specs.declared.parts.ReplicaParts.{ReplicaParts}
 use Rattle.replica_state.specs.Merges.{copy_at, copies_without, running_names, copies_names, copied_names, no_copies, CopyApart}
 use Rattle.replica_state.specs.Sources.{CopiesFrom, KeepsSource, HoldsOnly}
 use Rattle.replica_state.specs.Replica.{IsWholeReplica, IsJobAbove, IsMergeCopy, AreMergeCopies, AreStanding, names_of_job, copying_names}
@@ -31,7 +31,7 @@ pub some_with : {P Q : PointJob → Type 0} (job : Option PointJob) → ((j : Po
 some_with None turns h = tt
 some_with (Some j) turns h = turns j refl h
 
-module _ {D : Type 0} (cells : D → Cells) (p : Parts D) (is : IsWholeReplica cells p) (next : MergeCopies) (gone : List Name) (split : (q : Name) → times (copies_names p.copies) q ≡ times gone q + times (copies_names next) q) where
+module _ {D : Type 0} (cells : D → Cells) (p : ReplicaParts D) (is : IsWholeReplica cells p) (next : MergeCopies) (gone : List Name) (split : (q : Name) → times (copies_names p.copies) q ≡ times gone q + times (copies_names next) q) where
   core : IsCore cells p
   core = core_of cells p is
 
@@ -89,7 +89,7 @@ module _ {D : Type 0} (cells : D → Cells) (p : Parts D) (is : IsWholeReplica c
     cancelled_held = holds_beside p (record p { dir = dir; files = files; copies = next }) other
 
 -- ---- one copy ends
-module _ {D : Type 0} (cells : D → Cells) (p : Parts D) (is : IsWholeReplica cells p) (number : ℕ) (c : Job) (e : copy_at number p.copies.running ≡ Some c) where
+module _ {D : Type 0} (cells : D → Cells) (p : ReplicaParts D) (is : IsWholeReplica cells p) (number : ℕ) (c : Job) (e : copy_at number p.copies.running ≡ Some c) where
   abbrev pub without_copy : MergeCopies
   without_copy = record { running = copies_without number p.copies.running; pending = p.copies.pending }
 
@@ -150,7 +150,7 @@ module _ {D : Type 0} (cells : D → Cells) (p : Parts D) (is : IsWholeReplica c
     without_held = cancelled_held cells p is (record { running = copies_without number p.copies.running; pending = p.copies.pending }) (job_names c) copy_split copy_foreign dir files lets_go
 
 -- ---- all copies end, and every pending file is given back
-module _ {D : Type 0} (cells : D → Cells) (p : Parts D) (is : IsWholeReplica cells p) where
+module _ {D : Type 0} (cells : D → Cells) (p : ReplicaParts D) (is : IsWholeReplica cells p) where
   pub all_split : (q : Name) → times (copies_names p.copies) q ≡ times (copies_names p.copies) q + times (copies_names no_copies) q
   all_split q = let none : times (copies_names no_copies) q ≡ 0 = refl in omega (arith, none)
 
@@ -181,7 +181,7 @@ module _ {D : Type 0} (cells : D → Cells) (p : Parts D) (is : IsWholeReplica c
     none_held = cancelled_held cells p is no_copies (copies_names p.copies) all_split all_foreign dir files lets_go
 
 -- ---- as the calls leave the copies
-module _ {D : Type 0} (cells : D → Cells) (p : Parts D) (is : IsWholeReplica cells p) (number : ℕ) (c : Job) (e : copy_at number p.copies.running ≡ Some c) (dir : D) (files : Holdings) (lets_go : LetsGo (job_names c) p.files files (cells p.dir) (cells dir))
+module _ {D : Type 0} (cells : D → Cells) (p : ReplicaParts D) (is : IsWholeReplica cells p) (number : ℕ) (c : Job) (e : copy_at number p.copies.running ≡ Some c) (dir : D) (files : Holdings) (lets_go : LetsGo (job_names c) p.files files (cells p.dir) (cells dir))
     (left : List Job) (left_is : left ≡ copies_without number p.copies.running) where
   pub left_whole : IsWholeReplica cells (record p { dir = dir; files = files; copies = record { running = left; pending = p.copies.pending } })
   left_whole = subst (λ (r : List Job). IsWholeReplica cells (record p { dir = dir; files = files; copies = record { running = r; pending = p.copies.pending } })) (sym left_is) (without_whole cells p is number c e dir files lets_go)
@@ -203,7 +203,7 @@ all_gone running pending slice h0 h1 h2 a b c moves same lets_go = record {
   keeps = keeps_then [] [] h0 h1 h2 a b c moves.keeps lets_go.keeps (λ q had has. omega (arith, has, lets_go.counts q));
 }
 
-module _ {D : Type 0} (cells : D → Cells) (p : Parts D) (is : IsWholeReplica cells p) where
+module _ {D : Type 0} (cells : D → Cells) (p : ReplicaParts D) (is : IsWholeReplica cells p) where
   pub running_counted : AreCounted (running_names p.copies.running) p.files
   running_counted = record { each = λ q. let all = (cancelled_counted cells p is no_copies (copies_names p.copies) (all_split cells p is)).each q in omega (arith, all, times-append (running_names p.copies.running) (meta_names p.copies.pending.files) q) }
 

@@ -19,7 +19,7 @@ use Rattle.searcher_switch.proofs.Fewer.{no_more_step, no_more_begun}
 use Rattle.searcher_switch.proofs.Standing.{stands_along, standing_kept, standing_step, standing_begun}
 use Rattle.searcher_switch.specs.Tickets.{ticket_names}
 use Rattle.searcher_switch.specs.Searching.{searcher_names}
-use Rattle.replica_state.specs.declared.parts.Parts.{Parts}
+use Rattle.replica_state.specs.declared.parts.ReplicaParts.{ReplicaParts}
 use Rattle.replica_state.specs.Replica.{AreStanding, replica_names, copying_names}
 use Rattle.replica_state.proofs.Named.{file_counted}
 use Rattle.replica_state.proofs.Along.{point_along}
@@ -34,7 +34,7 @@ next_after book (Some (Pending s)) = refl
 next_after book (Some (Named s)) = refl
 next_after book (Some (Renamed s)) = refl
 
-module _ {D : Type 0} (cells : D → Cells) (p : Parts D) (is : IsCore cells p) where
+module _ {D : Type 0} (cells : D → Cells) (p : ReplicaParts D) (is : IsCore cells p) where
   point_some : (q : Name) → 0 < times p.searchers.point.names q → 0 < times (replica_names p) q
   point_some q some = omega (arith, some, times-append (searcher_names p.searchers) (copying_names p) q, times-append p.searchers.point.names (ticket_names p.searchers.tickets) q)
 

@@ -4,12 +4,12 @@ use Rattle.disk_model.specs.Disk.{Cells, reads_of}
 use Rattle.segment_infos.specs.Infos.{CanSpell}
 use Rattle.searcher_switch.specs.Node.{IsWholeNode}
 use Rattle.searcher_switch.specs.Searching.{searcher_names}
-use Rattle.replica_state.specs.declared.parts.Parts.{Parts}
+use Rattle.replica_state.specs.declared.parts.ReplicaParts.{ReplicaParts}
 use Rattle.replica_state.specs.Waiting.{HasNoTemporary, IsWaiting}
 use Rattle.replica_state.specs.Replica.{IsPointOf, IsJobAbove, replica_names}
 
 -- the files, the point and the job of a replica
-pub record IsCore {D : Type 0} (cells : D → Cells) (p : Parts D) : Type 0 where
+pub record IsCore {D : Type 0} (cells : D → Cells) (p : ReplicaParts D) : Type 0 where
   pub node : IsWholeNode (cells p.dir) p.files (replica_names p) p.commits
   pub point : IsPointOf (reads_of (cells p.dir)) p.infos p.searchers.point
   pub spelled : CanSpell p.infos

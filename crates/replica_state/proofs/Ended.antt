@@ -12,7 +12,7 @@ use Rattle.searcher_switch.specs.Searching.{searcher_names}
 use Rattle.copy_state.specs.States.{meta_names}
 use Rattle.copy_job.specs.Jobs.{Job, job_names}
 use Rattle.replica_state.specs.declared.job.PointJob.{PointJob}
-use Rattle.replica_state.specs.declared.parts.Parts.{Parts}
+use Rattle.replica_state.specs.declared.parts.ReplicaParts.{ReplicaParts}
 use Rattle.replica_state.specs.Merges.{running_names, copies_names, copied_names, CopyApart}
 use Rattle.replica_state.specs.Sources.{CopiesFrom, KeepsSource, HoldsOnly}
 use Rattle.replica_state.specs.Waiting.{IsWaiting}
@@ -24,7 +24,7 @@ use Rattle.replica_state.proofs.Keeping.{Knows, Matches, core_of, whole_of, know
 use Rattle.replica_state.proofs.Merging.{all_map, all_both, all_held}
 use Rattle.replica_state.proofs.GivenBack.{gone_counted, node_rest, point_rest, rest_other, rest_bytes, copy_bytes, copy_stays}
 
-module _ {D : Type 0} (cells : D → Cells) (p : Parts D) (is : IsWholeReplica cells p) where
+module _ {D : Type 0} (cells : D → Cells) (p : ReplicaParts D) (is : IsWholeReplica cells p) where
   core : IsCore cells p
   core = core_of cells p is
 

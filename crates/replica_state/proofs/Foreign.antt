@@ -11,7 +11,7 @@ use Rattle.copy_state.specs.States.{meta_names}
 use Rattle.copy_job.specs.Parts.{own_names}
 use Rattle.copy_job.specs.Jobs.{Job, job_names}
 use Rattle.replica_state.specs.declared.job.PointJob.{PointJob}
-use Rattle.replica_state.specs.declared.parts.Parts.{Parts}
+use Rattle.replica_state.specs.declared.parts.ReplicaParts.{ReplicaParts}
 use Rattle.replica_state.specs.Merges.{running_names, copies_names, copied_names, CopyApart}
 use Rattle.replica_state.specs.Waiting.{IsWaiting}
 use Rattle.replica_state.specs.Replica.{IsWholeReplica, IsJobAbove, IsMergeCopy}
@@ -41,7 +41,7 @@ running_foreign cells holdings jobs [] each number fewer name others = refl
 running_foreign cells holdings jobs (c ∷ cs) each number fewer name others =
     omega (arith, merge_foreign cells holdings jobs c each.0 number fewer name others.0, running_foreign cells holdings jobs cs each.1 number fewer name others.1, times-append (job_names c) (running_names cs) (temp_name_of name number))
 
-module _ {D : Type 0} (cells : D → Cells) (p : Parts D) (is : IsWholeReplica cells p) (number : ℕ) (fewer : number < 2 ^ 64) (name : Name) where
+module _ {D : Type 0} (cells : D → Cells) (p : ReplicaParts D) (is : IsWholeReplica cells p) (number : ℕ) (fewer : number < 2 ^ 64) (name : Name) where
   -- the merge copies and the pending files
   pub copies_foreign : AllByRecursion (λ c. times (copied_names c) name ≡ 0) p.copies.running → times (copies_names p.copies) (temp_name_of name number) ≡ 0
   copies_foreign others = omega (
@@ -59,7 +59,7 @@ module _ {D : Type 0} (cells : D → Cells) (p : Parts D) (is : IsWholeReplica c
       job_foreign j.infos j.copy above.copy above.state.files p.files waits number fewer name (own_none j.copy name other)
 
 -- the copies beside the job hold no temporary file of what it copies
-pub beside_foreign : {D : Type 0} (cells : D → Cells) (p : Parts D) → IsWholeReplica cells p → (j : PointJob) → p.job ≡ Some j → (number : ℕ) → number < 2 ^ 64 → (name : Name) → 0 < times (copied_names j.copy) name
+pub beside_foreign : {D : Type 0} (cells : D → Cells) (p : ReplicaParts D) → IsWholeReplica cells p → (j : PointJob) → p.job ≡ Some j → (number : ℕ) → number < 2 ^ 64 → (name : Name) → 0 < times (copied_names j.copy) name
     → times (copies_names p.copies) (temp_name_of name number) ≡ 0
 beside_foreign cells p is j e number fewer name copied =
     let apart : AllByRecursion (CopyApart j.copy) p.copies.running = subst (λ (o : Option PointJob). IfSome o (λ k. AllByRecursion (CopyApart k.copy) p.copies.running)) e is.merges.beside_job in

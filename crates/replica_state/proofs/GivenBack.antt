@@ -10,7 +10,7 @@ use Rattle.searcher_switch.proofs.Carry.{node_lets_go, node_same_names}
 use Rattle.searcher_switch.specs.Tickets.{ticket_names}
 use Rattle.searcher_switch.specs.Searching.{searcher_names}
 use Rattle.copy_job.specs.Jobs.{Job, job_names}
-use Rattle.replica_state.specs.declared.parts.Parts.{Parts}
+use Rattle.replica_state.specs.declared.parts.ReplicaParts.{ReplicaParts}
 use Rattle.replica_state.specs.Merges.{copied_names}
 use Rattle.replica_state.specs.Replica.{IsPointOf, IsMergeCopy, copying_names, replica_names}
 use Rattle.replica_state.proofs.Along.{point_along}
@@ -19,7 +19,7 @@ use Rattle.replica_state.proofs.Cores.{IsCore}
 use Rattle.replica_state.proofs.Keeping.{merge_spared}
 use Rattle.replica_state.proofs.Sparing.{SparesJob}
 
-module _ {D : Type 0} (cells : D → Cells) (p : Parts D) (is : IsCore cells p) (gone rest : List Name) (split : (q : Name) → times (copying_names p) q ≡ times gone q + times rest q) where
+module _ {D : Type 0} (cells : D → Cells) (p : ReplicaParts D) (is : IsCore cells p) (gone rest : List Name) (split : (q : Name) → times (copying_names p) q ≡ times gone q + times rest q) where
   pub gone_counted : AreCounted gone p.files
   gone_counted = record { each = λ q. omega (arith, is.node.counts q, split q, times-append (searcher_names p.searchers) (copying_names p) q) }
 

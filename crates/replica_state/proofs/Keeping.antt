@@ -14,7 +14,7 @@ use Rattle.copy_job.specs.Jobs.{Job, IsJob, job_names, reads_under}
 use Rattle.replica_opening.specs.Known.{HasMeta, KnowsFile, KnowsHeld, IsLasting}
 use Rattle.replica_state.specs.declared.job.PointJob.{PointJob}
 use Rattle.replica_state.specs.declared.merges.MergeCopies.{MergeCopies}
-use Rattle.replica_state.specs.declared.parts.Parts.{Parts}
+use Rattle.replica_state.specs.declared.parts.ReplicaParts.{ReplicaParts}
 use Rattle.replica_state.specs.Merges.{running_names, copies_names, copied_names}
 use Rattle.replica_state.specs.Sources.{CopiesFrom, HeldReadAs, KeepsSource, HoldsOnly}
 use Rattle.replica_state.specs.Replica.{IsWholeReplica, IsJobAbove, HasMetas, IsMergeCopy, AreMergeCopies, names_of_job, copying_names}
@@ -67,10 +67,10 @@ pub reads_copies : (source : Name → Content) (cells : Cells) (j : Job) → Job
 reads_copies source cells j h = record { each = h.each }
 
 -- ---- a replica is a core, and more
-pub core_of : {D : Type 0} (cells : D → Cells) (p : Parts D) → IsWholeReplica cells p → IsCore cells p
+pub core_of : {D : Type 0} (cells : D → Cells) (p : ReplicaParts D) → IsWholeReplica cells p → IsCore cells p
 core_of cells p is = record { node = is.node; point = is.point; spelled = is.spelled; lasting = is.lasting; newer = is.newer; waits = is.waits }
 
-pub whole_of : {D : Type 0} (cells : D → Cells) (p : Parts D) → IsCore cells p → p.segs ≡ p.searchers.point.readers → KnowsHeld (reads_of (cells p.dir)) p.files p.known → IfSome p.job (λ j. HasMetas (reads_of (cells p.dir)) j.copy)
+pub whole_of : {D : Type 0} (cells : D → Cells) (p : ReplicaParts D) → IsCore cells p → p.segs ≡ p.searchers.point.readers → KnowsHeld (reads_of (cells p.dir)) p.files p.known → IfSome p.job (λ j. HasMetas (reads_of (cells p.dir)) j.copy)
     → p.jobs < 2 ^ 63 → AreMergeCopies (cells p.dir) p.files p.jobs p.job p.copies → IsWholeReplica cells p
 whole_of cells p is segs known copied few merges = record {
   node = is.node;
@@ -105,23 +105,23 @@ merge_lasts cells holdings jobs c m = copied_lasts (segment_infos m.segment.seg)
 
 -- ---- calls beside the job
 -- the names of a copy read the same where what is held does
-pub copy_still : {D : Type 0} (cells : D → Cells) (p now : Parts D) → IsCore cells p → IsCore cells now → KeepsBytes p.files now.files (cells p.dir) (cells now.dir) → (c : Job)
+pub copy_still : {D : Type 0} (cells : D → Cells) (p now : ReplicaParts D) → IsCore cells p → IsCore cells now → KeepsBytes p.files now.files (cells p.dir) (cells now.dir) → (c : Job)
     → ((q : Name) → times (job_names c) q ≤ times (copying_names p) q) → ((q : Name) → times (job_names c) q ≤ times (copying_names now) q)
     → (q : Name) → 0 < times (job_names c) q → (cells now.dir q).now ≡ (cells p.dir q).now
 copy_still cells p now is after stays c had has q some =
     stays.held q (omega (arith, some, had q, is.node.counts q, times-append (searcher_names p.searchers) (copying_names p) q)) (omega (arith, some, has q, after.node.counts q, times-append (searcher_names now.searchers) (copying_names now) q))
 
 -- what a job holds is held by the copies
-pub job_within : {D : Type 0} (p : Parts D) (j : PointJob) → p.job ≡ Some j → (q : Name) → times (job_names j.copy) q ≤ times (copying_names p) q
+pub job_within : {D : Type 0} (p : ReplicaParts D) (j : PointJob) → p.job ≡ Some j → (q : Name) → times (job_names j.copy) q ≤ times (copying_names p) q
 job_within p j e q =
     let had : times (names_of_job p.job) q ≡ times (job_names j.copy) q = ap (λ (o : Option PointJob). times (names_of_job o) q) e in
     omega (arith, had, times-append (names_of_job p.job) (copies_names p.copies) q)
 
-pub running_within : {D : Type 0} (p : Parts D) (q : Name) → times (running_names p.copies.running) q ≤ times (copying_names p) q
+pub running_within : {D : Type 0} (p : ReplicaParts D) (q : Name) → times (running_names p.copies.running) q ≤ times (copying_names p) q
 running_within p q = omega (arith, times-append (names_of_job p.job) (copies_names p.copies) q, times-append (running_names p.copies.running) (meta_names p.copies.pending.files) q)
 
 -- what holds of what a job has is carried over a call beside it
-pub job_carried : {D : Type 0} (cells : D → Cells) (p now : Parts D) → IsCore cells p → IsCore cells now → KeepsBytes p.files now.files (cells p.dir) (cells now.dir) → (J : Job → Name → Content → Type 0) → (job other : Option PointJob) → p.job ≡ job → now.job ≡ other
+pub job_carried : {D : Type 0} (cells : D → Cells) (p now : ReplicaParts D) → IsCore cells p → IsCore cells now → KeepsBytes p.files now.files (cells p.dir) (cells now.dir) → (J : Job → Name → Content → Type 0) → (job other : Option PointJob) → p.job ≡ job → now.job ≡ other
     → other ≡ job → IfSome job (λ j. JobReads (J j.copy) (cells p.dir) j.copy) → IfSome other (λ j. JobReads (J j.copy) (cells now.dir) j.copy)
 job_carried cells p now is after stays J None other e f same h = subst (λ (o : Option PointJob). IfSome o (λ j. JobReads (J j.copy) (cells now.dir) j.copy)) (sym same) tt
 job_carried cells p now is after stays J (Some j) other e f same h =
@@ -135,10 +135,10 @@ some_map None turns h = tt
 some_map (Some j) turns h = turns j h
 
 -- a temporary file of a replica is held by its copies alone
-pub temporary_held : {D : Type 0} (cells : D → Cells) (p : Parts D) → IsCore cells p → (name : Name) (number : ℕ) → count_of p.files (temp_name_of name number) ≡ times (copying_names p) (temp_name_of name number)
+pub temporary_held : {D : Type 0} (cells : D → Cells) (p : ReplicaParts D) → IsCore cells p → (name : Name) (number : ℕ) → count_of p.files (temp_name_of name number) ≡ times (copying_names p) (temp_name_of name number)
 temporary_held cells p is = temporary_count (cells p.dir) p.files (searcher_names p.searchers) (copying_names p) p.commits is.node is.lasting
 
-module _ {D : Type 0} (cells : D → Cells) (p now : Parts D) (is : IsWholeReplica cells p) (after : IsCore cells now) (job : now.job ≡ p.job) (copies : now.copies ≡ p.copies)
+module _ {D : Type 0} (cells : D → Cells) (p now : ReplicaParts D) (is : IsWholeReplica cells p) (after : IsCore cells now) (job : now.job ≡ p.job) (copies : now.copies ≡ p.copies)
     (only : HoldsNoOther p.files now.files) (stays : KeepsBytes p.files now.files (cells p.dir) (cells now.dir)) where
   pub known_beside : now.known ≡ p.known → KnowsHeld (reads_of (cells now.dir)) now.files now.known
   known_beside same = subst (λ (k : List (Name × FileMetaData)). KnowsHeld (reads_of (cells now.dir)) now.files k) (sym same)
@@ -196,5 +196,5 @@ module _ {D : Type 0} (cells : D → Cells) (p now : Parts D) (is : IsWholeRepli
         (all_both (CopiesFrom source (reads_of (cells p.dir))) (λ c. IsMergeCopy (cells p.dir) p.files p.jobs c × ((q : Name) → times (job_names c) q ≤ times (copying_names p) q)) p.copies.running h.merges each_within));
   }
 
-pub holds_beside : {D : Type 0} (p now : Parts D) → HoldsNoOther p.files now.files → HoldsOnly p now
+pub holds_beside : {D : Type 0} (p now : ReplicaParts D) → HoldsNoOther p.files now.files → HoldsOnly p now
 holds_beside p now only q lasting some = inl (was_held p.files now.files only q lasting some)

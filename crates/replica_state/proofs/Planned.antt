@@ -4,10 +4,10 @@ use Rattle.std.proofs.Common.{◌≡◌, sym, subst}
 use Rattle.disk_model.specs.Disk.{Cells, reads_of}
 use Rattle.searcher_switch.specs.Node.{IsWholeNode}
 use Rattle.searcher_switch.specs.Standing.{StandsForSome, IsStanding}
-use Rattle.replica_state.specs.declared.parts.Parts.{Parts}
+use Rattle.replica_state.specs.declared.parts.ReplicaParts.{ReplicaParts}
 use Rattle.replica_state.specs.Replica.{IsPointOf, AreStanding, replica_names}
 
-module _ {D : Type 0} (cells : D → Cells) (p : Parts D) (dir : D) (same : cells dir ≡ cells p.dir) where
+module _ {D : Type 0} (cells : D → Cells) (p : ReplicaParts D) (dir : D) (same : cells dir ≡ cells p.dir) where
   pub planned : IsCore cells p → IsCore cells (record p { dir = dir })
   planned is = record {
     node = subst (λ (k : Cells). IsWholeNode k p.files (replica_names p) p.commits) (sym same) is.node;

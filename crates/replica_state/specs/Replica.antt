@@ -10,7 +10,7 @@ use Rattle.segment_infos.specs.Files.{AreFilesOf}
 use Rattle.seg_reader.specs.Shown.{Shown}
 use Rattle.searcher_switch.specs.Node.{IsWholeNode}
 use Rattle.searcher_switch.specs.Standing.{StandsForSome, IsStanding}
-use Rattle.searcher_switch.specs.declared.open.Point.{Point}
+use Rattle.searcher_switch.specs.declared.open.SearchPoint.{SearchPoint}
 use Rattle.searcher_switch.specs.Searching.{searcher_names}
 use Rattle.copy_state.specs.declared.meta.FileMetaData.{FileMetaData}
 use Rattle.copy_state.specs.declared.state.CopyState.{CopyState}
@@ -20,7 +20,7 @@ use Rattle.copy_job.specs.Parts.{own_names, written_names, ArePlaceable}
 use Rattle.copy_job.specs.Jobs.{Job, IsJob, job_names, present_of, reads_under}
 use Rattle.replica_state.specs.declared.job.PointJob.{PointJob}
 use Rattle.replica_state.specs.declared.merges.MergeCopies.{MergeCopies}
-use Rattle.replica_state.specs.declared.parts.Parts.{Parts}
+use Rattle.replica_state.specs.declared.parts.ReplicaParts.{ReplicaParts}
 use Rattle.replica_opening.specs.Known.{HasMeta, KnowsHeld}
 use Rattle.replica_opening.specs.Readers.{AreReaders}
 use Rattle.replica_state.specs.Merges.{copies_names, CopyApart, AreCopiesApart, IsSegmentState, SharesNone}
@@ -32,15 +32,15 @@ names_of_job None = []
 names_of_job (Some j) = job_names j.copy
 
 -- the names that the copies of a replica hold: the job's, those of merge copies, and the pending files
-abbrev pub copying_names : {D : Type 0} → Parts D → List Name
+abbrev pub copying_names : {D : Type 0} → ReplicaParts D → List Name
 copying_names p = names_of_job p.job ++ copies_names p.copies
 
 -- the names that hold beside the commits: open tickets and the present point, and the copies
-abbrev pub replica_names : {D : Type 0} → Parts D → List Name
+abbrev pub replica_names : {D : Type 0} → ReplicaParts D → List Name
 replica_names p = searcher_names p.searchers ++ copying_names p
 
 -- the point that is searched is that of the infos: it has their version, their files and their segments
-pub record IsPointOf (reads : Name → Content) (infos : Infos) (point : Point Shown) : Type 0 where
+pub record IsPointOf (reads : Name → Content) (infos : Infos) (point : SearchPoint Shown) : Type 0 where
   pub version : point.version ≡ infos.version
   pub names : AreFilesOf infos point.names
   pub readers : AreReaders reads infos.segs point.readers
@@ -84,7 +84,7 @@ pub record AreMergeCopies (cells : Cells) (holdings : Holdings) (jobs : ℕ) (jo
 -- The replica's files are whole; the point that is searched is that of its infos, which a file can spell, by the segments at hand, and no temporary
 -- file is searched; the metadata of each file that is held is known; its job copies a newer point, has what it copied, and can place its parts; and so do its
 -- merge copies.
-pub record IsWholeReplica {D : Type 0} (cells : D → Cells) (p : Parts D) : Type 0 where
+pub record IsWholeReplica {D : Type 0} (cells : D → Cells) (p : ReplicaParts D) : Type 0 where
   pub node : IsWholeNode (cells p.dir) p.files (replica_names p) p.commits
   pub point : IsPointOf (reads_of (cells p.dir)) p.infos p.searchers.point
   pub spelled : CanSpell p.infos
@@ -98,14 +98,14 @@ pub record IsWholeReplica {D : Type 0} (cells : D → Cells) (p : Parts D) : Typ
   pub merges : AreMergeCopies (cells p.dir) p.files p.jobs p.job p.copies
 
 -- the state is of a point above the one that is searched, of the greatest generation seen
-pub record IsWanted {D : Type 0} (p : Parts D) (state : CopyState) : Type 0 where
+pub record IsWanted {D : Type 0} (p : ReplicaParts D) (state : CopyState) : Type 0 where
   pub infos : Infos
   pub is : IsPointState state infos
   pub seen : state.primary_gen ≡ p.seen
   pub above : p.searchers.point.version.0 < state.version.0
 
 -- the state is of a merged segment, of the greatest generation seen; no job, no merge copy and no pending file names one of its files
-pub record MayLaunch {D : Type 0} (p : Parts D) (state : CopyState) : Type 0 where
+pub record MayLaunch {D : Type 0} (p : ReplicaParts D) (state : CopyState) : Type 0 where
   pub segment : IsSegmentState state
   pub seen : state.primary_gen ≡ p.seen
   pub job : IfSome p.job (λ j. SharesNone (meta_names j.copy.want.files) (meta_names state.files))
@@ -113,7 +113,7 @@ pub record MayLaunch {D : Type 0} (p : Parts D) (state : CopyState) : Type 0 whe
   pub pending : SharesNone (meta_names p.copies.pending.files) (meta_names state.files)
 
 -- the point that is searched is of some documents, and so is each commit
-pub record AreStanding {D : Type 0} (cells : D → Cells) (p : Parts D) : Type 0 where
+pub record AreStanding {D : Type 0} (cells : D → Cells) (p : ReplicaParts D) : Type 0 where
   pub point : StandsForSome (reads_of (cells p.dir)) p.infos
   pub commits : IsStanding (reads_of (cells p.dir)) p.commits
 

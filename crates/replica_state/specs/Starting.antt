@@ -7,12 +7,12 @@ use Rattle.file_names.specs.Names.{is_commit_name, commit_number}
 use Rattle.file_deleter.specs.Holdings.{IsThere}
 use Rattle.segment_infos.specs.Files.{files_of_segment}
 use Rattle.seg_reader.specs.Stands.{StandsFor, AreSegmentsOf}
-use Rattle.replica_state.specs.declared.parts.Parts.{Parts}
+use Rattle.replica_state.specs.declared.parts.ReplicaParts.{ReplicaParts}
 use Rattle.replica_state.specs.Merges.{no_copies}
 use Rattle.replica_state.specs.Replica.{AreStanding}
 
 -- nothing is in flight, no ticket is open, there is no job and no merge copy and there was none, no file is pending, and the greatest generation seen is that of the point
-pub record IsJustOpened {D : Type 0} (p : Parts D) : Type 0 where
+pub record IsJustOpened {D : Type 0} (p : ReplicaParts D) : Type 0 where
   pub stage : p.commits.stage ≡ None
   pub tickets : p.searchers.tickets ≡ []
   pub job : p.job ≡ None
@@ -21,12 +21,12 @@ pub record IsJustOpened {D : Type 0} (p : Parts D) : Type 0 where
   pub seen : p.seen ≡ p.infos.generation
 
 -- the replica searches just these documents, its directory has them, and its commits are of some
-pub record SearchesJust {D : Type 0} (cells : D → Cells) (docs : List Doc) (p : Parts D) : Type 0 where
+pub record SearchesJust {D : Type 0} (cells : D → Cells) (docs : List Doc) (p : ReplicaParts D) : Type 0 where
   pub searched : AreSegmentsOf docs p.searchers.point.readers
   pub stands : StandsFor (reads_of (cells p.dir)) p.infos docs
   pub standing : AreStanding cells p
 
 -- each name that stands is that of a file of the point, or of the last commit
-pub record HasJustItsFiles {D : Type 0} (cells : D → Cells) (p : Parts D) : Type 0 where
+pub record HasJustItsFiles {D : Type 0} (cells : D → Cells) (p : ReplicaParts D) : Type 0 where
   pub each : (q : Name) → IsThere (cells p.dir) q
       → Contains (flat_map files_of_segment p.infos.segs) q ⊎ IsSomeAnd p.commits.last (λ c. (is_commit_name q ≡ true) × (commit_number q ≡ c.number))

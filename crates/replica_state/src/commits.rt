@@ -9,14 +9,14 @@ ghost use Rattle.commit_steps.specs.Commits.{ImagesAre, ImagesHave};
 ghost use Rattle.commit_steps.specs.Book.{commit_of, shown_by, book_after, is_last_step, HasBegun};
 ghost use Rattle.replica_state.specs.Sources.{KeepsSource, HoldsOnly};
 
-use crate::parts::Parts;
+use crate::parts::ReplicaParts;
 use commit_steps::CommitFault;
 use disk_model::Dir;
 use nrt_base::NoMemory;
 use std::alloc::Global;
 
 /// Begins a commit of the point that is searched.
-pub fn commit_begin<D: Dir>(alloc: Global, parts: &mut Parts<D>) -> Result<(), NoMemory>
+pub fn commit_begin<D: Dir>(alloc: Global, parts: &mut ReplicaParts<D>) -> Result<(), NoMemory>
     requires whole { IsWholeReplica D.cells parts.old }
     requires none { parts.old.commits.stage ≡ None }
     requires below { parts.old.commits.next < 2 ^ 62 }
@@ -44,7 +44,7 @@ pub fn commit_begin<D: Dir>(alloc: Global, parts: &mut Parts<D>) -> Result<(), N
 }
 
 /// Makes the next call of the directory for the commit in flight, and answers whether the commit is made.
-pub fn commit_step<D: Dir>(alloc: Global, parts: &mut Parts<D>) -> Result<bool, CommitFault>
+pub fn commit_step<D: Dir>(alloc: Global, parts: &mut ReplicaParts<D>) -> Result<bool, CommitFault>
     requires whole { IsWholeReplica D.cells parts.old }
     requires in_flight { IsSome parts.old.commits.stage }
     ensures whole { IsWholeReplica D.cells parts.new }

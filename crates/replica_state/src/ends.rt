@@ -20,13 +20,13 @@ ghost use Rattle.replica_state.specs.Replica.{IsWholeReplica, AreStanding};
 
 use crate::answer::PointAnswer;
 use crate::job::PointJob;
-use crate::parts::Parts;
+use crate::parts::ReplicaParts;
 use crate::taking::NodeParts;
 use disk_model::Dir;
 use nrt_base::{Gen, Version};
 
 /// Ends the job, if there is one, and gives back what it held, by one release.
-pub fn end_job<D: Dir>(parts: &mut Parts<D>)
+pub fn end_job<D: Dir>(parts: &mut ReplicaParts<D>)
     requires whole { IsWholeReplica D.cells parts.old }
     ensures whole { IsWholeReplica D.cells parts.new }
     ensures standing { AreStanding D.cells parts.old → AreStanding D.cells parts.new }
@@ -52,7 +52,7 @@ pub fn end_job<D: Dir>(parts: &mut Parts<D>)
 
 /// Stops the job, if there is one: it does not go on, and keeps its parts and what it reuses for the next one. Takes no
 /// memory, and makes no call of the disk.
-pub fn stop_job<D: Dir>(parts: &mut Parts<D>)
+pub fn stop_job<D: Dir>(parts: &mut ReplicaParts<D>)
     requires whole { IsWholeReplica D.cells parts.old }
     ensures whole { IsWholeReplica D.cells parts.new }
     ensures standing { AreStanding D.cells parts.old → AreStanding D.cells parts.new }
@@ -82,7 +82,7 @@ fn is_stopped(job: &Option<PointJob>) -> bool
 }
 
 // Ends the job where it is stopped, and gives back what it held. Takes no memory.
-fn end_stopped<D: Dir>(parts: &mut Parts<D>)
+fn end_stopped<D: Dir>(parts: &mut ReplicaParts<D>)
     requires whole { IsWholeReplica D.cells parts.old }
     ensures whole { IsWholeReplica D.cells parts.new }
     ensures standing { AreStanding D.cells parts.old → AreStanding D.cells parts.new }
@@ -106,7 +106,7 @@ fn end_stopped<D: Dir>(parts: &mut Parts<D>)
 }
 
 /// Ends a copy of a merged segment, and gives back what it held, by one release. Takes no memory.
-pub fn end_copy<D: Dir>(parts: &mut Parts<D>, job: u64)
+pub fn end_copy<D: Dir>(parts: &mut ReplicaParts<D>, job: u64)
     requires whole { IsWholeReplica D.cells parts.old }
     requires runs { is_some (copy_at job parts.old.copies.running) ≡ true }
     ensures whole { IsWholeReplica D.cells parts.new }
@@ -132,7 +132,7 @@ pub fn end_copy<D: Dir>(parts: &mut Parts<D>, job: u64)
 }
 
 /// Ends each copy of a merged segment, and gives every pending file back. Takes no memory.
-pub fn end_copies<D: Dir>(parts: &mut Parts<D>)
+pub fn end_copies<D: Dir>(parts: &mut ReplicaParts<D>)
     requires { IsWholeReplica D.cells parts.old }
     ensures whole { IsWholeReplica D.cells parts.new }
     ensures standing { AreStanding D.cells parts.old → AreStanding D.cells parts.new }
@@ -160,7 +160,7 @@ pub fn end_copies<D: Dir>(parts: &mut Parts<D>)
 
 // Notes the generation, which is none below the greatest seen; where it is above that, a stopped job and the copies of merged
 // segments end, and the pending files are given back.
-fn enter<D: Dir>(parts: &mut Parts<D>, generation: Gen)
+fn enter<D: Dir>(parts: &mut ReplicaParts<D>, generation: Gen)
     requires whole { IsWholeReplica D.cells parts.old }
     requires not_below { parts.old.seen.0 ≤ generation.0 }
     ensures whole { IsWholeReplica D.cells parts.new }
@@ -195,7 +195,11 @@ fn enter<D: Dir>(parts: &mut Parts<D>, generation: Gen)
 
 /// What to do with a point of this generation and version. On a higher generation than was seen a stopped job and each copy of a
 /// merged segment end, and every pending file is given back. Takes no memory.
-pub fn new_point<D: Dir>(parts: &mut Parts<D>, generation: Gen, version: Version) -> PointAnswer
+pub fn new_point<D: Dir>(
+    parts: &mut ReplicaParts<D>,
+    generation: Gen,
+    version: Version,
+) -> PointAnswer
     requires whole { IsWholeReplica D.cells parts.old }
     ensures whole { IsWholeReplica D.cells parts.new }
     ensures answer { result ≡ point_answer parts.old.seen.0 parts.old.searchers.point.version.0
@@ -238,7 +242,7 @@ pub fn new_point<D: Dir>(parts: &mut Parts<D>, generation: Gen, version: Version
 }
 
 /// The parts of a replica that becomes another node. Its copies are ended, and its pending files given back. Takes no memory.
-pub fn take_apart<D: Dir>(parts: Parts<D>) -> NodeParts<D>
+pub fn take_apart<D: Dir>(parts: ReplicaParts<D>) -> NodeParts<D>
     requires whole { IsWholeReplica D.cells parts }
     ensures node { IsWholeNode (D.cells result.dir) result.files
         (searcher_names result.searchers) result.commits }
@@ -261,7 +265,7 @@ pub fn take_apart<D: Dir>(parts: Parts<D>) -> NodeParts<D>
     let mut parts = parts;
     end_job(&mut parts);
     end_copies(&mut parts);
-    let Parts {
+    let ReplicaParts {
         dir,
         files,
         searchers,
@@ -285,10 +289,10 @@ pub fn take_apart<D: Dir>(parts: Parts<D>) -> NodeParts<D>
 }
 
 /// The directory of a replica that ends.
-pub fn into_dir<D: Dir>(parts: Parts<D>) -> D
+pub fn into_dir<D: Dir>(parts: ReplicaParts<D>) -> D
     ensures { result ≡ parts.dir }
 {
-    let Parts {
+    let ReplicaParts {
         dir,
         files: _,
         searchers: _,

@@ -11,7 +11,7 @@ use segment_infos::Infos;
 /// the infos of the point with its segments once more, the greatest generation seen, the number of its last job, the job of a
 /// newer point, the copies of merged segments, and what is known of the files that it holds.
 #[derive(Drop)]
-pub struct Parts<D> {
+pub struct ReplicaParts<D> {
     pub dir: D,
     pub files: FileDeleter,
     pub searchers: Searchers<Segment>,

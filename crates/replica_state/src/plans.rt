@@ -4,11 +4,11 @@ ghost use Rattle.std.specs.Prelude.{◌≡◌, ◌<◌};
 ghost use Rattle.replica_state.specs.Replica.{IsWholeReplica, AreStanding};
 ghost use Rattle.replica_state.specs.Sources.{KeepsSource, HoldsOnly};
 
-use crate::parts::Parts;
+use crate::parts::ReplicaParts;
 use disk_model::FaultDir;
 
 /// The k-th counted call of the directory from now fails once.
-pub fn plan<D: FaultDir>(parts: &mut Parts<D>, k: u64)
+pub fn plan<D: FaultDir>(parts: &mut ReplicaParts<D>, k: u64)
     requires some { 0 < k }
     requires whole { IsWholeReplica D.cells parts.old }
     ensures whole { IsWholeReplica D.cells parts.new }
@@ -24,7 +24,7 @@ pub fn plan<D: FaultDir>(parts: &mut Parts<D>, k: u64)
 }
 
 /// The k-th counted call of the directory from now and every later one fail.
-pub fn stop_at<D: FaultDir>(parts: &mut Parts<D>, k: u64)
+pub fn stop_at<D: FaultDir>(parts: &mut ReplicaParts<D>, k: u64)
     requires some { 0 < k }
     requires whole { IsWholeReplica D.cells parts.old }
     ensures whole { IsWholeReplica D.cells parts.new }

@@ -8,7 +8,7 @@ ghost use Rattle.searcher_switch.specs.Tickets.{ticket_at, tickets_without};
 ghost use Rattle.searcher_switch.specs.Searching.{IsLeaseOf};
 ghost use Rattle.replica_state.specs.Sources.{KeepsSource, HoldsOnly};
 
-use crate::parts::Parts;
+use crate::parts::ReplicaParts;
 use disk_model::Dir;
 use nrt_base::NoMemory;
 use searcher_switch::{Lease, Ticket};
@@ -16,7 +16,7 @@ use seg_reader::Segment;
 use std::alloc::Global;
 
 /// Opens a ticket at the point that is searched.
-pub fn acquire<D: Dir>(alloc: Global, parts: &mut Parts<D>) -> Result<Ticket, NoMemory>
+pub fn acquire<D: Dir>(alloc: Global, parts: &mut ReplicaParts<D>) -> Result<Ticket, NoMemory>
     requires { IsWholeReplica D.cells parts.old }
     ensures whole { IsWholeReplica D.cells parts.new }
     ensures standing { AreStanding D.cells parts.old → AreStanding D.cells parts.new }
@@ -43,7 +43,7 @@ pub fn acquire<D: Dir>(alloc: Global, parts: &mut Parts<D>) -> Result<Ticket, No
 /// What a search under a ticket reads.
 pub fn lease<D: Dir>(
     alloc: Global,
-    parts: &Parts<D>,
+    parts: &ReplicaParts<D>,
     ticket: &Ticket,
 ) -> Result<Lease<Segment>, NoMemory>
     requires { is_some (ticket_at ticket.now.number parts.now.searchers.tickets) ≡ true }
@@ -54,7 +54,7 @@ pub fn lease<D: Dir>(
 }
 
 /// Closes a ticket.
-pub fn release<D: Dir>(parts: &mut Parts<D>, ticket: Ticket)
+pub fn release<D: Dir>(parts: &mut ReplicaParts<D>, ticket: Ticket)
     requires whole { IsWholeReplica D.cells parts.old }
     requires open { is_some (ticket_at ticket.number parts.old.searchers.tickets) ≡ true }
     ensures whole { IsWholeReplica D.cells parts.new }

@@ -4,7 +4,7 @@ use Rattle.disk_model.specs.Disk.{Name, same}
 use Rattle.file_deleter.specs.Holdings.{times}
 use Rattle.file_deleter.proofs.NameLemmas.{same_self, times-cons}
 use Rattle.copy_state.specs.declared.meta.FileMetaData.{FileMetaData}
-use Rattle.copy_state.specs.States.{meta_names, meta_in}
+use Rattle.copy_state.specs.States.{meta_in}
 
 abbrev File : Type 0
 File = Name × FileMetaData

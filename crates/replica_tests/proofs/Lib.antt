@@ -2,3 +2,4 @@ mod Due
 mod Listing
 mod Running
 mod Sources
+mod StopLaws

@@ -7,7 +7,7 @@ use Rattle.disk_model.specs.Disk.{Name, Content, Cells, reads_of}
 use Rattle.copy_job.specs.Jobs.{Job}
 use Rattle.replica_state.specs.declared.job.PointJob.{PointJob}
 use Rattle.replica_state.specs.declared.merges.MergeCopies.{MergeCopies}
-use Rattle.replica_state.specs.declared.parts.Parts.{Parts}
+use Rattle.replica_state.specs.declared.parts.ReplicaParts.{ReplicaParts}
 use Rattle.replica_state.specs.Sources.{CopiesFrom, HeldReadAs, IsSourced}
 use Rattle.replica_state.specs.Starting.{IsJustOpened}
 use Rattle.replica_state.specs.Jobs.{running_point}
@@ -16,23 +16,23 @@ use Rattle.replica_node.proofs.Lent.{runs_here}
 
 -- ---- which one it is
 -- the law of `replica_node` on the job of a newer point
-abbrev PointRuns : {D : Type 0} → Parts D → ℕ → Type 0
+abbrev PointRuns : {D : Type 0} → ReplicaParts D → ℕ → Type 0
 PointRuns p number = (j : PointJob) → p.job ≡ Some j → j.stopped ≡ false → j.copy.number ≡ number → (running_job number p ≡ Some j.copy) × ((k : Job) → with_job number k p ≡ record p { job = Some (record j { copy = k }) })
 
-module _ {D : Type 0} (p : Parts D) (number : ℕ) (seen : Job) (law : PointRuns p number) (lent : Some seen ≡ option_map (λ (j : PointJob). j.copy) (running_point p.job)) (same : number ≡ seen.number) where
+module _ {D : Type 0} (p : ReplicaParts D) (number : ℕ) (seen : Job) (law : PointRuns p number) (lent : Some seen ≡ option_map (λ (j : PointJob). j.copy) (running_point p.job)) (same : number ≡ seen.number) where
   pub seen_runs : running_job number p ≡ Some seen
   seen_runs = let f = runs_here p.job seen lent in (law f.job f.there f.going (sym (ap (λ (k : Job). k.number) f.copy) ∙ sym same)).0 ∙ ap Some (sym f.copy)
 
 -- a claim of the one that runs
-pub of_running : {D : Type 0} (P : Job → Type 0) (p : Parts D) (number : ℕ) (seen : Job) → running_job number p ≡ Some seen → P seen → IfSome (running_job number p) P
+pub of_running : {D : Type 0} (P : Job → Type 0) (p : ReplicaParts D) (number : ℕ) (seen : Job) → running_job number p ≡ Some seen → P seen → IfSome (running_job number p) P
 of_running P p number seen runs h = subst (λ (o : Option Job). IfSome o P) (sym runs) h
 
-pub some_runs : {D : Type 0} (p : Parts D) (number : ℕ) (seen : Job) → running_job number p ≡ Some seen → is_some (running_job number p) ≡ true
+pub some_runs : {D : Type 0} (p : ReplicaParts D) (number : ℕ) (seen : Job) → running_job number p ≡ Some seen → is_some (running_job number p) ≡ true
 some_runs p number seen runs = ap (λ (o : Option Job). is_some o) runs
 
 -- ---- a replica that was just opened
 -- where nothing is held that reads otherwise, nothing is, as no copy runs
-pub just_sourced : {D : Type 0} (cells : D → Cells) (p : Parts D) → IsJustOpened p → (source : Name → Content) → HeldReadAs source (cells p.dir) p.files → IsSourced source cells p
+pub just_sourced : {D : Type 0} (cells : D → Cells) (p : ReplicaParts D) → IsJustOpened p → (source : Name → Content) → HeldReadAs source (cells p.dir) p.files → IsSourced source cells p
 just_sourced cells p is source held = record {
   held = held;
   job = subst (λ (o : Option PointJob). IfSome o (λ j. CopiesFrom source (reads_of (cells p.dir)) j.copy)) (sym is.job) tt;

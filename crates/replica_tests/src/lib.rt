@@ -1,4 +1,4 @@
-//! Tests of replicas over a directory in memory.
+//! Tests of replicas over a directory in memory, and laws of a replica that crashes.
 #![tactic(auto)]
 
 #[cfg(test)]
@@ -9,3 +9,4 @@ mod finishing;
 mod jobs;
 #[cfg(test)]
 mod openings;
+pub mod stops;

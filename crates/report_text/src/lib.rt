@@ -4,8 +4,6 @@
 mod causes;
 mod events;
 mod lines;
-#[cfg(test)]
-mod tests;
 mod words;
 
 pub use lines::{line, report, report_entries};

@@ -6,7 +6,7 @@ use Rattle.file_deleter.specs.Holdings.{Holdings, count_of, times}
 use Rattle.file_deleter.specs.Moves.{HoldsFiles, LetsGo, MovesCounts}
 use Rattle.searcher_switch.specs.Node.{AddsOnly}
 use Rattle.file_deleter.proofs.Keeping.{moves_held, moves_released, moves_switched}
-use Rattle.searcher_switch.specs.declared.open.Point.{Point}
+use Rattle.searcher_switch.specs.declared.open.SearchPoint.{SearchPoint}
 use Rattle.file_deleter.proofs.NameLemmas.{times-append}
 use Rattle.searcher_switch.specs.declared.open.Open.{Open}
 use Rattle.searcher_switch.specs.declared.searchers.Lease.{Lease}
@@ -84,7 +84,7 @@ fresh_without {R} next number (x ∷ ts) h n le =
     by more tail false = other (x.number == n) more (h n le)
 
 -- ---- how the names of the searchers move
-pub moves_opened : {R : Type 0} (point : Point R) (t : Open R) (ts tickets : List (Open R)) (old new : Holdings) (cells : Cells)
+pub moves_opened : {R : Type 0} (point : SearchPoint R) (t : Open R) (ts tickets : List (Open R)) (old new : Holdings) (cells : Cells)
     → HoldsFiles point.names old new cells → tickets ≡ ts ++ t ∷ [] → t.point ≡ point
     → MovesCounts [] (point.names ++ ticket_names ts) (point.names ++ ticket_names tickets) old new cells cells
 moves_opened {R} point t ts tickets old new cells h is at = moves_held point.names (point.names ++ ticket_names ts) (point.names ++ ticket_names tickets) old new cells h
@@ -92,10 +92,10 @@ moves_opened {R} point t ts tickets old new cells h is at = moves_held point.nam
     let a : times (point.names ++ ticket_names ts) q ≡ times point.names q + times (ticket_names ts) q = times-append point.names (ticket_names ts) q in
     let b : times (point.names ++ ticket_names tickets) q ≡ times point.names q + times (ticket_names tickets) q = times-append point.names (ticket_names tickets) q in
     let e : times (ticket_names tickets) q ≡ times (ticket_names (ts ++ t ∷ [])) q = ap (λ (l : List (Open R)). times (ticket_names l) q) is in
-    let f : times t.point.names q ≡ times point.names q = ap (λ (p : Point R). times p.names q) at in
+    let f : times t.point.names q ≡ times point.names q = ap (λ (p : SearchPoint R). times p.names q) at in
     omega (arith, a, b, e, f, names-push ts t q))
 
-pub moves_closed : {R : Type 0} (point : Point R) (number : ℕ) (t : Open R) (ts tickets : List (Open R)) (names : List Name) (old new : Holdings) (before after : Cells)
+pub moves_closed : {R : Type 0} (point : SearchPoint R) (number : ℕ) (t : Open R) (ts tickets : List (Open R)) (names : List Name) (old new : Holdings) (before after : Cells)
     → LetsGo names old new before after → names ≡ t.point.names → Some t ≡ ticket_at number ts → tickets ≡ tickets_without number ts
     → MovesCounts [] (point.names ++ ticket_names ts) (point.names ++ ticket_names tickets) old new before after
 moves_closed {R} point number t ts tickets names old new before after h named at is = moves_released names (point.names ++ ticket_names ts) (point.names ++ ticket_names tickets) old new before after h
@@ -107,7 +107,7 @@ moves_closed {R} point number t ts tickets names old new before after h named at
     omega (arith, a, b, e, f, names-without number ts t q at))
 
 -- what a closed ticket gives back is counted
-pub closed_counted : {R : Type 0} (point : Point R) (number : ℕ) (t : Open R) (ts : List (Open R)) (names : List Name) (es : Holdings)
+pub closed_counted : {R : Type 0} (point : SearchPoint R) (number : ℕ) (t : Open R) (ts : List (Open R)) (names : List Name) (es : Holdings)
     → ((q : Name) → times (point.names ++ ticket_names ts) q ≤ count_of es q) → names ≡ t.point.names → Some t ≡ ticket_at number ts
     → (q : Name) → times names q ≤ count_of es q
 closed_counted point number t ts names es counts named at q =
@@ -115,7 +115,7 @@ closed_counted point number t ts names es counts named at q =
     let f : times names q ≡ times t.point.names q = ap (λ (l : List Name). times l q) named in
     omega (arith, a, f, names-without number ts t q at, counts q)
 
-pub moves_to : {R : Type 0} (point next : Point R) (ts : List (Open R)) (olds news : List Name) (old mid new : Holdings) (before after : Cells)
+pub moves_to : {R : Type 0} (point next : SearchPoint R) (ts : List (Open R)) (olds news : List Name) (old mid new : Holdings) (before after : Cells)
     → HoldsFiles news old mid before → LetsGo olds mid new before after → olds ≡ point.names → news ≡ next.names
     → MovesCounts [] (point.names ++ ticket_names ts) (next.names ++ ticket_names ts) old new before after
 moves_to point next ts olds news old mid new before after h r o n = moves_switched news olds (point.names ++ ticket_names ts) (next.names ++ ticket_names ts) old mid new before after h r
@@ -126,7 +126,7 @@ moves_to point next ts olds news old mid new before after h r o n = moves_switch
     let f : times news q ≡ times next.names q = ap (λ (l : List Name). times l q) n in
     omega (arith, a, b, e, f))
 
-pub switched_counted : {R : Type 0} (point : Point R) (ts : List (Open R)) (olds news : List Name) (old mid : Holdings) (cells : Cells)
+pub switched_counted : {R : Type 0} (point : SearchPoint R) (ts : List (Open R)) (olds news : List Name) (old mid : Holdings) (cells : Cells)
     → ((q : Name) → times (point.names ++ ticket_names ts) q ≤ count_of old q) → HoldsFiles news old mid cells → olds ≡ point.names
     → (q : Name) → times olds q ≤ count_of mid q
 switched_counted point ts olds news old mid cells counts h o q =
@@ -134,7 +134,7 @@ switched_counted point ts olds news old mid cells counts h o q =
     let e : times olds q ≡ times point.names q = ap (λ (l : List Name). times l q) o in
     omega (arith, a, e, h.counts q, counts q)
 
-pub point_names : {R : Type 0} (p q : Point R) → p ≡ q → p.names ≡ q.names
+pub point_names : {R : Type 0} (p q : SearchPoint R) → p ≡ q → p.names ≡ q.names
 point_names p q e = λ i. (e i).names
 
 -- the ticket at the place where it was found
@@ -151,18 +151,18 @@ got_at (x ∷ xs) zero t lt is = ap Some is
 got_at (x ∷ xs) (suc i) t lt is = got_at xs i t (omega (arith, lt)) is
 
 -- ---- the value names no other files than before
-pub opened_only : {R : Type 0} (point : Point R) (t : Open R) (ts tickets : List (Open R)) → tickets ≡ ts ++ t ∷ [] → t.point ≡ point
+pub opened_only : {R : Type 0} (point : SearchPoint R) (t : Open R) (ts tickets : List (Open R)) → tickets ≡ ts ++ t ∷ [] → t.point ≡ point
     → AddsOnly [] (point.names ++ ticket_names ts) (point.names ++ ticket_names tickets)
 opened_only {R} point t ts tickets is at = record {
   each = λ q none nil.
       let a : times (point.names ++ ticket_names ts) q ≡ times point.names q + times (ticket_names ts) q = times-append point.names (ticket_names ts) q in
       let b : times (point.names ++ ticket_names tickets) q ≡ times point.names q + times (ticket_names tickets) q = times-append point.names (ticket_names tickets) q in
       let e : times (ticket_names tickets) q ≡ times (ticket_names (ts ++ t ∷ [])) q = ap (λ (l : List (Open R)). times (ticket_names l) q) is in
-      let f : times t.point.names q ≡ times point.names q = ap (λ (p : Point R). times p.names q) at in
+      let f : times t.point.names q ≡ times point.names q = ap (λ (p : SearchPoint R). times p.names q) at in
       omega (arith, none, a, b, e, f, names-push ts t q);
 }
 
-pub closed_only : {R : Type 0} (point : Point R) (number : ℕ) (t : Open R) (ts tickets : List (Open R)) → Some t ≡ ticket_at number ts → tickets ≡ tickets_without number ts
+pub closed_only : {R : Type 0} (point : SearchPoint R) (number : ℕ) (t : Open R) (ts tickets : List (Open R)) → Some t ≡ ticket_at number ts → tickets ≡ tickets_without number ts
     → AddsOnly [] (point.names ++ ticket_names ts) (point.names ++ ticket_names tickets)
 closed_only {R} point number t ts tickets at is = record {
   each = λ q none nil.
@@ -172,7 +172,7 @@ closed_only {R} point number t ts tickets at is = record {
       omega (arith, none, a, b, e, names-without number ts t q at);
 }
 
-pub switched_only : {R : Type 0} (point next : Point R) (ts : List (Open R)) (news : List Name) → news ≡ next.names → AddsOnly news (point.names ++ ticket_names ts) (next.names ++ ticket_names ts)
+pub switched_only : {R : Type 0} (point next : SearchPoint R) (ts : List (Open R)) (news : List Name) → news ≡ next.names → AddsOnly news (point.names ++ ticket_names ts) (next.names ++ ticket_names ts)
 switched_only point next ts news n = record {
   each = λ q none nil.
       let a : times (point.names ++ ticket_names ts) q ≡ times point.names q + times (ticket_names ts) q = times-append point.names (ticket_names ts) q in

@@ -13,7 +13,7 @@ use std::alloc::Global;
 
 /// A point: its version, its files and what reads them.
 #[derive(Drop)]
-pub struct Point<R> {
+pub struct SearchPoint<R> {
     pub version: Version,
     pub names: List<FileName>,
     pub readers: List<R>,
@@ -23,7 +23,7 @@ pub struct Point<R> {
 #[derive(Drop)]
 pub struct Open<R> {
     pub number: u64,
-    pub point: Point<R>,
+    pub point: SearchPoint<R>,
 }
 
 // The place of the ticket with this number, or the length.
@@ -54,11 +54,11 @@ pub(crate) fn take_out<R>(tickets: &mut List<Open<R>>, number: u64) -> Open<R>
 // A second value of a point.
 pub(crate) fn share_point<R: Share + Drop>(
     alloc: Global,
-    point: &Point<R>,
-) -> Result<Point<R>, NoMemory>
+    point: &SearchPoint<R>,
+) -> Result<SearchPoint<R>, NoMemory>
     ensures { IfOk result (λ copy. copy ≡ point.now) }
 {
-    Ok(Point {
+    Ok(SearchPoint {
         version: point.version,
         names: point.names.share(alloc)?,
         readers: point.readers.share(alloc)?,
@@ -68,7 +68,7 @@ pub(crate) fn share_point<R: Share + Drop>(
 // Counts the files of the point once more, for a ticket.
 pub(crate) fn open_on<R: Share + Drop, D: Dir>(
     alloc: Global,
-    point: &Point<R>,
+    point: &SearchPoint<R>,
     tickets: &mut List<Open<R>>,
     number: u64,
     files: &mut FileDeleter,

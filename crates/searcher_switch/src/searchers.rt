@@ -6,7 +6,7 @@ ghost use Rattle.file_deleter.specs.Moves.{MovesCounts};
 ghost use Rattle.searcher_switch.specs.Node.{AddsOnly};
 ghost use Rattle.searcher_switch.specs.Tickets.{ticket_at, tickets_without};
 
-use crate::open::{self, Open, Point};
+use crate::open::{self, Open, SearchPoint};
 use disk_model::Dir;
 use file_deleter::FileDeleter;
 use file_names::FileName;
@@ -29,7 +29,7 @@ pub struct Ticket {
 /// The point that is searched, and the open tickets.
 #[derive(Drop)]
 pub struct Searchers<R> {
-    pub point: Point<R>,
+    pub point: SearchPoint<R>,
     pub tickets: List<Open<R>>,
     pub next: u64,
     ghost fresh: { (n : ℕ) → next ≤ n → is_some (ticket_at n tickets) ≡ false },
@@ -50,7 +50,7 @@ impl<R: Share + Drop> Searchers<R> {
         ensures tickets { IfOk result (λ s. s.tickets ≡ []) }
     {
         Ok(Searchers {
-            point: Point {
+            point: SearchPoint {
                 version,
                 names,
                 readers,
@@ -131,7 +131,12 @@ impl<R: Share + Drop> Searchers<R> {
 
     /// Searches another point from now on, and hands the former one over. No count changes: the caller has counted the
     /// new point's files, and gives back the former one's.
-    pub fn replace(&mut self, version: Version, names: List<FileName>, readers: List<R>) -> Point<R>
+    pub fn replace(
+        &mut self,
+        version: Version,
+        names: List<FileName>,
+        readers: List<R>,
+    ) -> SearchPoint<R>
         ensures old { result ≡ self.old.point }
         ensures point { self.new.point
             ≡ record { version = version; names = names; readers = readers } }
@@ -139,7 +144,7 @@ impl<R: Share + Drop> Searchers<R> {
     {
         std::mem::replace(
             &mut self.point,
-            Point {
+            SearchPoint {
                 version,
                 names,
                 readers,

@@ -15,6 +15,3 @@ pub use postings_plain::Joined;
 pub use reading::read_back;
 pub use rows::Prepared;
 pub use seg_reader::{LiveBits, Segment, segment_id};
-
-#[cfg(test)]
-mod tests;

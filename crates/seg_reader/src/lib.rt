@@ -14,6 +14,3 @@ pub use id::segment_id;
 pub use live_bits::{LiveBits, encode};
 pub use parts::{SegFault, SegFile, SegParts};
 pub use segment::Segment;
-
-#[cfg(test)]
-mod tests;

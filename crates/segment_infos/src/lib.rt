@@ -17,6 +17,3 @@ pub use files::files_of;
 pub use info::{SegInfo, encode_info, read_info};
 pub use infos::{Infos, SegRecord};
 pub use reading::decode;
-
-#[cfg(test)]
-mod tests;

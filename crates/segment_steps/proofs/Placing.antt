@@ -9,7 +9,7 @@ use Rattle.seg_merge.specs.Given.{Shown, File, record_of}
 use Rattle.seg_merge.specs.declared.task.Merged.{Merged}
 use Rattle.seg_merge.specs.Merging.{carried, IsWithin, AreAsLong}
 use Rattle.segment_steps.specs.declared.next.NextSegments.{NextSegments}
-use Rattle.segment_steps.specs.declared.cutting.Merging.{Merging}
+use Rattle.segment_steps.specs.declared.cutting.Replacement.{Replacement}
 use Rattle.segment_steps.specs.Next.{Turn, record_after, shown_after, is_changed, IsLiveFileAfter, TakesSegment}
 use Rattle.segment_steps.specs.CutOver.{Part, is_one_of, inputs_in, others_in, in_place, lives_of, part_after, KeepsSegment, turn_of, turns_of, placed_rest, AreFilesSo, StepsOverSegment, IsPlaced, change_by, IsCutOf}
 
@@ -55,7 +55,7 @@ lives_taken inputs p ps rest old new whole b e next so_far put =
 
 -- ---- one step
 
-module _ (g : ℕ) (inputs : List SegNo) (merged : Merging) (p : Part) where
+module _ (g : ℕ) (inputs : List SegNo) (merged : Replacement) (p : Part) where
   abbrev new : List Part
   new = map (part_after g) (turns_of g merged)
 
@@ -109,13 +109,13 @@ module _ (g : ℕ) (inputs : List SegNo) (merged : Merging) (p : Part) where
 
 -- ---- the loop
 
-pub record IsPlacedTo (g : ℕ) (inputs : List SegNo) (merged : Merging) (ps : List Part) (made : NextSegments) (placed : Bool) (at : ℕ) : Type 0 where
+pub record IsPlacedTo (g : ℕ) (inputs : List SegNo) (merged : Replacement) (ps : List Part) (made : NextSegments) (placed : Bool) (at : ℕ) : Type 0 where
   pub records_are : made.records ++ map (λ (q : Part). q.0) (placed_rest g inputs merged placed (drop at ps)) ≡ map (λ (q : Part). q.0) (in_place inputs (map (part_after g) (turns_of g merged)) ps)
   pub segs_are : made.segs ++ map (λ (q : Part). q.1) (placed_rest g inputs merged placed (drop at ps)) ≡ map (λ (q : Part). q.1) (in_place inputs (map (part_after g) (turns_of g merged)) ps)
   pub files : AreFilesSo g merged placed made.files
   pub left : placed ≡ false → 0 < length (inputs_in inputs (drop at ps))
 
-pub placed_none : (g : ℕ) (inputs : List SegNo) (merged : Merging) (ps : List Part) (made : NextSegments) → made.records ≡ [] → made.segs ≡ [] → made.files ≡ [] → 0 < length (inputs_in inputs ps) → IsPlacedTo g inputs merged ps made false 0
+pub placed_none : (g : ℕ) (inputs : List SegNo) (merged : Replacement) (ps : List Part) (made : NextSegments) → made.records ≡ [] → made.segs ≡ [] → made.files ≡ [] → 0 < length (inputs_in inputs ps) → IsPlacedTo g inputs merged ps made false 0
 placed_none g inputs merged ps made no_records no_segs no_files some = record {
   records_are = ap (λ (rs : List SegRecord). rs ++ map (λ (q : Part). q.0) (in_place inputs (map (part_after g) (turns_of g merged)) ps)) no_records;
   segs_are = ap (λ (ss : List Shown). ss ++ map (λ (q : Part). q.1) (in_place inputs (map (part_after g) (turns_of g merged)) ps)) no_segs;
@@ -123,7 +123,7 @@ placed_none g inputs merged ps made no_records no_segs no_files some = record {
   left = λ e. some;
 }
 
-pub placed_more : (g : ℕ) (inputs : List SegNo) (merged : Merging) (ps : List Part) (p : Part) (old made : NextSegments) (was now : Bool) (at : ℕ) → drop at ps ≡ p ∷ drop (at + 1) ps → IsPlacedTo g inputs merged ps old was at
+pub placed_more : (g : ℕ) (inputs : List SegNo) (merged : Replacement) (ps : List Part) (p : Part) (old made : NextSegments) (was now : Bool) (at : ℕ) → drop at ps ≡ p ∷ drop (at + 1) ps → IsPlacedTo g inputs merged ps old was at
     → StepsOverSegment g inputs merged p old made was now → IsPlacedTo g inputs merged ps made now (at + 1)
 placed_more g inputs merged ps p old made was now at next so_far step =
     let rest = drop (at + 1) ps in
@@ -134,7 +134,7 @@ placed_more g inputs merged ps p old made was now at next so_far step =
       left = λ e. step.left rest (λ f. subst (λ (qs : List Part). 0 < length (inputs_in inputs qs)) next (so_far.left f)) e;
     }
 
-pub all_placed : (g : ℕ) (inputs : List SegNo) (merged : Merging) (ps : List Part) (made : NextSegments) (placed : Bool) (at : ℕ) → drop at ps ≡ [] → IsPlacedTo g inputs merged ps made placed at → IsPlaced g inputs merged ps made
+pub all_placed : (g : ℕ) (inputs : List SegNo) (merged : Replacement) (ps : List Part) (made : NextSegments) (placed : Bool) (at : ℕ) → drop at ps ≡ [] → IsPlacedTo g inputs merged ps made placed at → IsPlaced g inputs merged ps made
 all_placed g inputs merged ps made false at none is = absurd (omega (arith, subst (λ (qs : List Part). 0 < length (inputs_in inputs qs)) none (is.left refl)))
 all_placed g inputs merged ps made true at none is = record {
   records_are = sym (append-nil made.records) ∙ sym (ap (λ (qs : List Part). made.records ++ map (λ (q : Part). q.0) (others_in inputs qs)) none) ∙ is.records_are;
@@ -159,7 +159,7 @@ all_long (l ∷ lives) (n ∷ noted) all = (within_long l n all.0, all_long live
 pub lives_long : (now lives noted : List (List Bool)) → now ≡ lives → AllZip IsWithin lives noted → AllZip AreAsLong now noted
 lives_long now lives noted e all = subst (λ (ls : List (List Bool)). AllZip AreAsLong ls noted) (sym e) (all_long lives noted all)
 
-abbrev merging_of : SegRecord → Shown → Option (List Bool) → Merging
+abbrev merging_of : SegRecord → Shown → Option (List Bool) → Replacement
 merging_of r shown c = record { entry = r; segment = shown; change = c }
 
 pub cut_is : (g : ℕ) (inputs : List SegNo) (merged : Merged) (shown : Shown) (ps : List Part) (made : NextSegments) (r : SegRecord) (c : Option (List Bool)) (live : List Bool) (lives : List (List Bool)) → r ≡ record_of merged.files.seg merged.files.live

@@ -9,7 +9,7 @@ use Rattle.seg_merge.specs.Given.{Shown, File, record_of}
 use Rattle.seg_merge.specs.declared.task.Merged.{Merged}
 use Rattle.seg_merge.specs.Merging.{carried, IsWithin}
 use Rattle.segment_steps.specs.declared.next.NextSegments.{NextSegments}
-use Rattle.segment_steps.specs.declared.cutting.Merging.{Merging}
+use Rattle.segment_steps.specs.declared.cutting.Replacement.{Replacement}
 use Rattle.segment_steps.specs.Next.{Turn, record_after, shown_after, staying, is_changed, IsLiveFileAfter}
 
 -- a segment of infos: its record and what it shows
@@ -78,31 +78,31 @@ pub record KeepsSegment (p : Part) (old new : NextSegments) : Type 0 where
   pub files_are : new.files ≡ old.files
 
 -- the turn of the merged segment
-abbrev pub turn_of : Merging → Turn
+abbrev pub turn_of : Replacement → Turn
 turn_of merged = (merged.entry, (merged.segment, merged.change))
 
-abbrev pub turns_of : ℕ → Merging → List Turn
+abbrev pub turns_of : ℕ → Replacement → List Turn
 turns_of g merged = staying g [] (turn_of merged ∷ [])
 
 -- what the rest of the segments gives, where the merged one was placed already, and where it was not
-abbrev pub placed_rest : ℕ → List SegNo → Merging → Bool → List Part → List Part
+abbrev pub placed_rest : ℕ → List SegNo → Replacement → Bool → List Part → List Part
 placed_rest g inputs merged true ps = others_in inputs ps
 placed_rest g inputs merged false ps = in_place inputs (map (part_after g) (turns_of g merged)) ps
 
 -- its live file is there once it was placed
-abbrev pub AreFilesSo : ℕ → Merging → Bool → List File → Type 0
+abbrev pub AreFilesSo : ℕ → Replacement → Bool → List File → Type 0
 AreFilesSo g merged true files = AllZip (IsLiveFileAfter g) (filter is_changed (turns_of g merged)) files
 AreFilesSo g merged false files = files ≡ []
 
 -- one segment was gone over
-pub record StepsOverSegment (g : ℕ) (inputs : List SegNo) (merged : Merging) (p : Part) (old new : NextSegments) (was now : Bool) : Type 0 where
+pub record StepsOverSegment (g : ℕ) (inputs : List SegNo) (merged : Replacement) (p : Part) (old new : NextSegments) (was now : Bool) : Type 0 where
   pub records_are : (ps : List Part) → new.records ++ map (λ q. q.0) (placed_rest g inputs merged now ps) ≡ old.records ++ map (λ q. q.0) (placed_rest g inputs merged was (p ∷ ps))
   pub segs_are : (ps : List Part) → new.segs ++ map (λ q. q.1) (placed_rest g inputs merged now ps) ≡ old.segs ++ map (λ q. q.1) (placed_rest g inputs merged was (p ∷ ps))
   pub files_are : AreFilesSo g merged was old.files → AreFilesSo g merged now new.files
   pub left : (ps : List Part) → (was ≡ false → 0 < length (inputs_in inputs (p ∷ ps))) → now ≡ false → 0 < length (inputs_in inputs ps)
 
 -- the merged segment is in the place of its inputs
-pub record IsPlaced (g : ℕ) (inputs : List SegNo) (merged : Merging) (ps : List Part) (made : NextSegments) : Type 0 where
+pub record IsPlaced (g : ℕ) (inputs : List SegNo) (merged : Replacement) (ps : List Part) (made : NextSegments) : Type 0 where
   pub records_are : made.records ≡ map (λ q. q.0) (in_place inputs (map (part_after g) (turns_of g merged)) ps)
   pub segs_are : made.segs ≡ map (λ q. q.1) (in_place inputs (map (part_after g) (turns_of g merged)) ps)
   pub changes : AllZip (IsLiveFileAfter g) (filter is_changed (turns_of g merged)) made.files

@@ -59,7 +59,7 @@ fn keep(
 
 /// A merged segment that is to be put in the place of its inputs.
 #[derive(Drop)]
-pub struct Merging {
+pub struct Replacement {
     /// Its record with all rows live.
     pub entry: SegRecord,
     pub segment: Segment,
@@ -74,7 +74,7 @@ fn step_over(
     placed: &mut bool,
     generation: Gen,
     inputs: &[SegNo],
-    merged: &Merging,
+    merged: &Replacement,
     record: &SegRecord,
     segment: &Segment,
 ) -> Result<(), NoMemory>
@@ -108,7 +108,7 @@ fn put_in_place(
     alloc: Global,
     generation: Gen,
     inputs: &[SegNo],
-    merged: &Merging,
+    merged: &Replacement,
     records: &[SegRecord],
     segs: &[Segment],
 ) -> Result<NextSegments, NoMemory>
@@ -170,7 +170,7 @@ pub fn cut_over(
     let change = change_of(live);
     let segment = read_back(alloc, &merged.files)?;
     let entry = first_record(merged.files.seg, &merged.files.live);
-    let merging = Merging {
+    let merging = Replacement {
         entry,
         segment,
         change,

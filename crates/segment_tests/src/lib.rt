@@ -1,18 +1,9 @@
-//! Tests of what publishes and merges make of segments, which need nothing private.
+//! Tests of the files of a segment, of images of directories, and of messages, by bytes from outside.
 #![tactic(auto)]
 
 #[cfg(test)]
-mod cut_overs;
+mod files;
 #[cfg(test)]
-mod drops;
+mod images;
 #[cfg(test)]
-mod formats;
-#[cfg(test)]
-mod many_rows;
-#[cfg(test)]
-mod random_cuts;
-mod started;
-#[cfg(test)]
-mod writer;
-
-pub use started::Started;
+mod messages;

@@ -12,7 +12,7 @@ use link_model::LinkFault;
 use nrt_base::{Gen, Key, NameBytes};
 use primary_state::{PrimaryFault, PublishFault};
 use promotion::PromoteFault;
-use replica_opening::{ReadFault, StartFault};
+use replica_opening::{LoadFault, StartFault};
 use seg_reader::{SegFault, SegFile};
 use std::alloc::{AllocError, Global};
 use std::error::Error;
@@ -99,7 +99,7 @@ fn segments(rt: HostRuntime) -> Result<(), Fail> {
     let fault = SegFault::File(SegFile::Info, MAGIC);
     let want =
         "the info file of a segment cannot be read: the file does not begin with the magic number 3fd76c17";
-    assert_eq!(rt; said(alloc, ReadFault::Refused(fault))?.as_str(), want);
+    assert_eq!(rt; said(alloc, LoadFault::Refused(fault))?.as_str(), want);
     Ok(())
 }
 

@@ -1,3 +1,4 @@
 mod FitLemmas
+mod PlainServingLaws
 mod ReplayLemmas
 mod Unprinted

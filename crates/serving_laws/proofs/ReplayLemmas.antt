@@ -27,7 +27,7 @@ use Rattle.serving_laws.specs.Replay.{IsAcceptance, IsAcceptanceOf, BeginsWithRe
 
 -- ---- lines
 
-at_itself : (a b : At) → a ≡ b → same_at a b ≡ true
+pub at_itself : (a b : At) → a ≡ b → same_at a b ≡ true
 at_itself a b e = rw (eq-eqb a.lane.0 b.lane.0 (ap (λ (x : At). x.lane.0) e), eq-eqb a.line.0 b.line.0 (ap (λ (x : At). x.line.0) e)) refl
 
 -- ---- what a served history shows, entry by entry
@@ -72,7 +72,7 @@ due_by event here past left = elim event [
   | _ ↦ left
 ]
 
-told : (op : Op) (past : Past) (at : At) (command : Option LineCommand) (event : Event) → FitsReplay op past at command event → (seq : ℕ) × (event ≡ Accepted seq op) × (is_newest_at at past ≡ true)
+pub told : (op : Op) (past : Past) (at : At) (command : Option LineCommand) (event : Event) → FitsReplay op past at command event → (seq : ℕ) × (event ≡ Accepted seq op) × (is_newest_at at past ≡ true)
 told op past at (Some (Promote n force)) (Accepted seq again) h = (seq, ap (Accepted seq) h.0, h.1)
 told op past at command event h = absurd h
 

@@ -5,8 +5,6 @@ mod build;
 mod fault;
 mod parse;
 mod syntax;
-#[cfg(test)]
-mod tests;
 mod token;
 
 pub use documents::words;

@@ -3,4 +3,3 @@ mod FileLaws
 mod LogNames
 mod Appending
 mod LogFound
-mod TestLaws

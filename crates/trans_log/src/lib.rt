@@ -10,6 +10,3 @@ mod record;
 pub use log::{LogFault, TransLog};
 pub use opening::LogRefused;
 pub use record::LogOp;
-
-#[cfg(test)]
-mod tests;

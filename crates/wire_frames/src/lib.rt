@@ -15,8 +15,3 @@ pub use encoding::encode;
 pub use message::{Message, StateFault, WireFault};
 pub use running::{FramesEnd, run_frames};
 pub use states::{state_messages, state_of};
-
-#[cfg(test)]
-mod stream_tests;
-#[cfg(test)]
-mod tests;

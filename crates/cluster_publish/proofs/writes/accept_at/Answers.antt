@@ -12,7 +12,7 @@ use Rattle.cluster_state.specs.Run.{Run}
 use Rattle.cluster_state.proofs.MergingPaths.{third_at, put_shown}
 use Rattle.cluster_state.proofs.MergingStill.{primary_keeps}
 use Rattle.cluster_nodes.specs.declared.nodes.Node.TheVariants.{Primary}
-use Rattle.primary_state.specs.declared.parts.Parts.{Parts as PrimaryParts}
+use Rattle.primary_state.specs.declared.parts.PrimaryParts.{PrimaryParts}
 use Rattle.cluster_publish.proofs.writes.accept_at.Goals as goal
 
 pub take-requires-clause-slot : goal.take-requires-clause-slot

@@ -1,7 +1,7 @@
 use Rattle.std.proofs.Common.{ap, arith, ◌≡◌, ◌≤◌, ◌+◌, ◌∙◌, sym, refl, subst, Some, Option, List, ℕ, map, length, true, false, true≢false}
 use Rattle.history_rules.specs.declared.entry.Event.TheVariants.{Published, Refused}
 use Rattle.history_rules.specs.declared.cause.Cause.TheVariants.{DiskFault}
-use Rattle.primary_state.specs.declared.parts.Parts.{Parts as PrimaryParts}
+use Rattle.primary_state.specs.declared.parts.PrimaryParts.{PrimaryParts}
 use Rattle.cluster_state.proofs.Frames.{slot_at, slot_kept, there_at, rule_at}
 use Rattle.cluster_publish.proofs.PublishPaths.{primary_stands, work_at, next_fits, next_is, published_rule, end_path, ends_now}
 use Rattle.cluster_publish.proofs.PublishFiles.{end_files}
@@ -10,7 +10,7 @@ use Rattle.history_rules.specs.Nodes.{generation_of, newest_version, primary_of,
 use Rattle.history_rules.specs.Lines.{publish_in_flight, is_answered}
 use Rattle.history_book.specs.Log.{Log, printed}
 use Rattle.cluster_state.proofs.MergingPaths.{third_at, put_published}
-use Rattle.cluster_nodes.specs.declared.nodes.Place.{Place}
+use Rattle.cluster_nodes.specs.declared.nodes.NodePlace.{NodePlace}
 use Rattle.cluster_state.specs.Run.{Run}
 use Rattle.cluster_state.specs.Met.{met_in, with_met, ArePlanned, has_risen}
 use Rattle.cluster_state.specs.Writes.{IsFlushed}
@@ -136,7 +136,7 @@ invariant_of-cluster-in-Ok g c = λ running. (
 
 pub returns-in-Ok-clause-ok : goal.returns-in-Ok-clause-ok
 returns-in-Ok-clause-ok g c = ends_behind g.D.FaultDir.planned c.cluster.inside.places.items c.put.new.places.items c.args.cluster.now _ c.cluster.inside.ledger c.reserve.new.self c.note_published.new.ledger c.args.at true c.as_slice-in-Ok.result.now (map (met_in g.D.FaultDir.planned) c.put.new.places.items) (Published (record { 0 = c.generation.result }) c.in-Ok.v) c.cluster.view_is c.in_ok-reserve.ensures.log c.in_ok-reserve.ensures.nodes c.note_published.ensures.log c.note_published.ensures.nodes
-    (λ i. Published (record { 0 = told_of c.book-book.ensures.log generation_of c.generation.ensures i }) (record { 0 = (next_is g.D.Dir.cells c.args.cluster.now _ c.cluster.inside.ledger _ c.args.p c.take.result c.cluster.view_is c.requires.running (λ e. (c.cluster.invariant e).0) c.requires.node c.take.ensures.place c.primary_in-primary.result.0 c.primary_in-primary.result.1 c.primary_in-primary.ensures c.in-Ok.v c.in-Ok.ensures.version) i })) (c.as_slice-in-Ok.ensures.value ∙ (c.in_ok-before.ensures ∙ ap (λ (l : List (Option (Place _))). map (met_in g.D.FaultDir.planned) l) c.as_slice.ensures.value)) refl refl refl
+    (λ i. Published (record { 0 = told_of c.book-book.ensures.log generation_of c.generation.ensures i }) (record { 0 = (next_is g.D.Dir.cells c.args.cluster.now _ c.cluster.inside.ledger _ c.args.p c.take.result c.cluster.view_is c.requires.running (λ e. (c.cluster.invariant e).0) c.requires.node c.take.ensures.place c.primary_in-primary.result.0 c.primary_in-primary.result.1 c.primary_in-primary.ensures c.in-Ok.v c.in-Ok.ensures.version) i })) (c.as_slice-in-Ok.ensures.value ∙ (c.in_ok-before.ensures ∙ ap (λ (l : List (Option (NodePlace _))). map (met_in g.D.FaultDir.planned) l) c.as_slice.ensures.value)) refl refl refl
 
 pub invariant_of-cluster-in-Err : goal.invariant_of-cluster-in-Err
 invariant_of-cluster-in-Err g c = λ running. (
@@ -152,7 +152,7 @@ invariant_of-cluster-in-Err g c = λ running. (
 )
 
 pub returns-clause-ok : goal.returns-clause-ok
-returns-clause-ok g c = ends_behind g.D.FaultDir.planned c.cluster.inside.places.items c.put.new.places.items c.args.cluster.now _ c.cluster.inside.ledger c.reserve.new.self c.note_given_up.new.ledger c.args.at false c.as_slice-in-Err-2.result.now (map (met_in g.D.FaultDir.planned) c.put.new.places.items) (Refused DiskFault) c.cluster.view_is c.in_ok-reserve.ensures.log c.in_ok-reserve.ensures.nodes c.note_given_up.ensures.log c.note_given_up.ensures.nodes refl (c.as_slice-in-Err-2.ensures.value ∙ (c.in_ok-before.ensures ∙ ap (λ (l : List (Option (Place _))). map (met_in g.D.FaultDir.planned) l) c.as_slice.ensures.value)) refl refl refl
+returns-clause-ok g c = ends_behind g.D.FaultDir.planned c.cluster.inside.places.items c.put.new.places.items c.args.cluster.now _ c.cluster.inside.ledger c.reserve.new.self c.note_given_up.new.ledger c.args.at false c.as_slice-in-Err-2.result.now (map (met_in g.D.FaultDir.planned) c.put.new.places.items) (Refused DiskFault) c.cluster.view_is c.in_ok-reserve.ensures.log c.in_ok-reserve.ensures.nodes c.note_given_up.ensures.log c.note_given_up.ensures.nodes refl (c.as_slice-in-Err-2.ensures.value ∙ (c.in_ok-before.ensures ∙ ap (λ (l : List (Option (NodePlace _))). map (met_in g.D.FaultDir.planned) l) c.as_slice.ensures.value)) refl refl refl
 
 pub invariant_of-cluster : goal.invariant_of-cluster
 invariant_of-cluster g c = λ ended. absurd (true≢false ended)

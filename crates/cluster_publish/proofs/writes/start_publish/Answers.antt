@@ -12,7 +12,7 @@ use Rattle.cluster_state.proofs.MergingPaths.{third_at, put_shown, put_same}
 use Rattle.cluster_state.proofs.MergingStill.{primary_keeps, stand_kept, all_keep}
 use Rattle.cluster_nodes.specs.declared.nodes.Node.TheVariants.{Primary}
 use Rattle.history_book.specs.declared.inner.Inner.TheVariants.{FlushOut}
-use Rattle.primary_state.specs.declared.parts.Parts.{Parts as PrimaryParts}
+use Rattle.primary_state.specs.declared.parts.PrimaryParts.{PrimaryParts}
 use Rattle.cluster_publish.proofs.writes.start_publish.Goals as goal
 
 pub take-requires-clause-slot : goal.take-requires-clause-slot

@@ -1,5 +1,5 @@
 use Rattle.std.proofs.Common.{◌∙◌, refl, ◌≡◌, [], ap, ◌∷◌, ℕ}
-use Rattle.cluster_nodes.specs.declared.held.Key.TheVariants.{Search}
+use Rattle.cluster_nodes.specs.declared.held.HeldKey.TheVariants.{Search}
 use Rattle.cluster_state.proofs.Frames.{slot_at, there_at, slot_kept}
 use Rattle.cluster_search.proofs.TicketPaths.{may_open, search_path, running_at, search_held, search_reads}
 use Rattle.cluster_search.proofs.TicketFiles.{opened_files}

@@ -1,4 +1,4 @@
-use Rattle.cluster_nodes.specs.declared.held.Key.TheVariants.{Ticket}
+use Rattle.cluster_nodes.specs.declared.held.HeldKey.TheVariants.{Ticket}
 use Rattle.cluster_state.proofs.Frames.{slot_at, there_at, slot_kept}
 use Rattle.cluster_search.proofs.TicketPaths.{may_open, ticket_path, running_at}
 use Rattle.cluster_search.proofs.TicketFiles.{opened_files}

@@ -1,6 +1,6 @@
 use Rattle.std.proofs.Common.{◌≡◌, ◌<◌, ◌+◌, ◌∙◌, ap, sym, arith, get_or, drop, map, ℕ, List, ◌∷◌, Option, length}
 use Rattle.std.proofs.lemmas.List.{drop_more}
-use Rattle.cluster_nodes.specs.declared.nodes.Place.{Place}
+use Rattle.cluster_nodes.specs.declared.nodes.NodePlace.{NodePlace}
 use Rattle.cluster_state.specs.Met.{met_in}
 use Rattle.cluster_state.proofs.Planned.{next_met}
 use Rattle.cluster_state.proofs.met.show_met.Goals as goal

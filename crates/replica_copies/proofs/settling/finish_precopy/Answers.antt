@@ -1,6 +1,6 @@
 use Rattle.std.proofs.Common.{◌≡◌, ◌∙◌, sym, ap, arith}
 use Rattle.file_deleter.specs.Holdings.{count_of}
-use Rattle.replica_state.specs.declared.parts.Parts.{Parts}
+use Rattle.replica_state.specs.declared.parts.ReplicaParts.{ReplicaParts}
 use Rattle.replica_state.specs.Merges.{copy_at}
 use Rattle.replica_copies.proofs.Came.{some_at}
 use Rattle.replica_copies.proofs.Finishes.{same_fault, still_whole, holds_then, runs_mid, complete_mid, files_mid, own_mid, ended_mid, still_mid, settled_mid, reads_mid}
@@ -43,7 +43,7 @@ pub returns-in-Ok-settle_copy-clause-held : goal.returns-in-Ok-settle_copy-claus
 returns-in-Ok-settle_copy-clause-held g c =
     let p = c.args.parts.now in
     holds_then p c.place_copy.new.parts c.settle_copy.new.parts (copy_at c.args.job p.copies.running) c.place_copy.ensures.held
-    (λ q. let same : count_of c.settle_copy.new.parts.files q ≡ count_of c.place_copy.new.parts.files q = ap (λ (x : Parts g.row.D.Denot). count_of x.files q) c.settle_copy.ensures.others in omega (arith, same))
+    (λ q. let same : count_of c.settle_copy.new.parts.files q ≡ count_of c.place_copy.new.parts.files q = ap (λ (x : ReplicaParts g.row.D.Denot). count_of x.files q) c.settle_copy.ensures.others in omega (arith, same))
 
 pub returns-in-Ok-settle_copy-clause-ok : goal.returns-in-Ok-settle_copy-clause-ok
 returns-in-Ok-settle_copy-clause-ok g c =
@@ -55,13 +55,13 @@ pub returns-in-Ok-settle_copy-clause-reads : goal.returns-in-Ok-settle_copy-clau
 returns-in-Ok-settle_copy-clause-reads g c =
     let p = c.args.parts.now in
     let f = some_at (copy_at c.args.job p.copies.running) c.requires.runs c.in-Ok-place_copy.ensures.places in
-    reads_mid g.D.Dir.cells p c.place_copy.new.parts c.args.job f.0 f.1 _ f.2 f.2.all c.settle_copy.new.parts (ap (λ (x : Parts g.row.D.Denot). x.dir) c.settle_copy.ensures.others)
+    reads_mid g.D.Dir.cells p c.place_copy.new.parts c.args.job f.0 f.1 _ f.2 f.2.all c.settle_copy.new.parts (ap (λ (x : ReplicaParts g.row.D.Denot). x.dir) c.settle_copy.ensures.others)
 
 pub returns-in-Err-settle_copy-clause-held : goal.returns-in-Err-settle_copy-clause-held
 returns-in-Err-settle_copy-clause-held g c =
     let p = c.args.parts.now in
     holds_then p c.place_copy.new.parts c.settle_copy.new.parts (copy_at c.args.job p.copies.running) c.place_copy.ensures.held
-    (λ q. let same : count_of c.settle_copy.new.parts.files q ≡ count_of c.place_copy.new.parts.files q = ap (λ (x : Parts g.row.D.Denot). count_of x.files q) c.settle_copy.ensures.others in omega (arith, same))
+    (λ q. let same : count_of c.settle_copy.new.parts.files q ≡ count_of c.place_copy.new.parts.files q = ap (λ (x : ReplicaParts g.row.D.Denot). count_of x.files q) c.settle_copy.ensures.others in omega (arith, same))
 
 pub returns-in-Err-settle_copy-clause-memory : goal.returns-in-Err-settle_copy-clause-memory
 returns-in-Err-settle_copy-clause-memory g c is =
@@ -84,4 +84,4 @@ pub returns-in-Err-clause-memory : goal.returns-in-Err-clause-memory
 returns-in-Err-clause-memory g c is =
     let p = c.args.parts.now in
     let f = some_at (copy_at c.args.job p.copies.running) c.requires.runs c.in-Err.ensures.places in
-    still_mid g.D.Dir.cells p c.place_copy.new.parts c.args.job f.0 f.1 _ f.2 c.give_up.new.parts (ap (λ (x : Parts g.row.D.Denot). x.copies) (c.give_up.ensures.memory (sym c.give_up.ensures.same ∙ same_fault _ _ c.give_up.result _ is)))
+    still_mid g.D.Dir.cells p c.place_copy.new.parts c.args.job f.0 f.1 _ f.2 c.give_up.new.parts (ap (λ (x : ReplicaParts g.row.D.Denot). x.copies) (c.give_up.ensures.memory (sym c.give_up.ensures.same ∙ same_fault _ _ c.give_up.result _ is)))
