@@ -1,5 +1,5 @@
 -- What is sent of a file in chunks, and what is brought of them.
-use Rattle.std.proofs.Common.{◌≡◌, ℕ, ◌+◌, ◌<◌, ◌≤◌, List, [], ◌∷◌, ◌++◌, length, take, drop, get_or, refl, sym, ap, subst, ◌∙◌, append_assoc, arith}
+use Rattle.std.proofs.Common.{◌≡◌, ℕ, ◌+◌, ◌<◌, ◌≤◌, List, [], ◌∷◌, ◌++◌, length, take, drop, refl, sym, ap, subst, ◌∙◌, append_assoc, arith}
 use Rattle.std.specs.Prelude.{◌-◌, slice_range, slice_index_or}
 use Rattle.std.specs.List.{All, flat_map}
 use Rattle.std.proofs.lemmas.List.{append-nil, length-append, length-take-le, length-drop, take-append-drop, drop-drop, drop_all, drop_more}
@@ -48,10 +48,10 @@ module _ (stream front back : List ℕ) (whole : stream ≡ front ++ back) where
 -- ---- what was sent and brought
 
 -- a list of one
-single : (messages : List Message) (d : Message) → length messages ≡ 1 → messages ≡ slice_index_or messages 0 d ∷ []
-single [] d one = absurd (omega (arith, one))
-single (m ∷ []) d one = refl
-single (m ∷ n ∷ messages) d one = absurd (omega (arith, one))
+single : (messages : List Message) (m : Message) → m ≡ slice_index_or messages 0 m → length messages ≡ 1 → messages ≡ m ∷ []
+single [] m is one = absurd (omega (arith, one))
+single (n ∷ []) m is one = ap (λ (x : Message). x ∷ []) (sym is)
+single (n ∷ k ∷ messages) m is one = absurd (omega (arith, one))
 
 -- the messages from a place on
 pub from_place : (messages : List Message) (i : ℕ) (m : Message) → m ≡ slice_index_or messages i m → i < length messages → drop i messages ≡ m ∷ drop (i + 1) messages
@@ -156,15 +156,9 @@ module _ (name : List ℕ) (at : ℕ) (bytes : List ℕ) where
       → ((messages : List Message) → BeginsWith seen messages [] → read ≡ messages) → lent ≡ read → BringsFrom name at bytes lent
   stream_brings stream seen read lent s is all same = subst (BringsFrom name at bytes) (sym (same ∙ all s.messages (stream_begins stream seen s is))) s.brings
 
-  -- where there is one message, its bytes are all
-  pub only_chunk : (messages : List Message) (d : Message) → length messages ≡ 1 → BringsFrom name at bytes messages → IsChunkAt name (at + 0) (slice_index_or messages 0 d)
-  only_chunk messages d one brings =
-      let b = subst (BringsFrom name at bytes) (single messages d one) brings in
+  -- the only message is a chunk
+  pub only_chunk : (messages : List Message) (m : Message) → m ≡ slice_index_or messages 0 m → length messages ≡ 1 → BringsFrom name at bytes messages → IsChunkAt name (at + 0) m
+  only_chunk messages m is one brings =
+      let alone = subst (BringsFrom name at bytes) (single messages m is one) brings in
       let here : at ≡ at + 0 = omega arith in
-      subst (λ (n : ℕ). IsChunkAt name n (slice_index_or messages 0 d)) here (b.0, b.2)
-
-  pub only_bytes : (messages : List Message) (d : Message) (place : ℕ) (part : List ℕ) → length messages ≡ 1 → BringsFrom name at bytes messages → slice_index_or messages 0 d ≡ Chunk name place part → part ≡ bytes
-  only_bytes messages d place part one brings is =
-      let b = subst (BringsFrom name at bytes) (single messages d one) brings in
-      let same : part ≡ b.0 = let other = b.2 in cc (is, other) in
-      same ∙ sym (b.3 ∙ ap (λ (r : List ℕ). b.0 ++ r) b.4 ∙ append-nil b.0)
+      subst (λ (n : ℕ). IsChunkAt name n m) here (alone.0, alone.2)
