@@ -1,7 +1,7 @@
 use Rattle.std.proofs.Common.{refl, subst}
 use Rattle.disk_model.specs.Disk.{HasCrashed}
-use Rattle.replica_tests.proofs.StopLaws.{crashed_settled, reopened}
-use Rattle.replica_tests.proofs.stops.reopens.Goals as goal
+use Rattle.recovery_laws.proofs.StopLaws.{crashed_settled, reopened}
+use Rattle.recovery_laws.proofs.stops.reopens.Goals as goal
 
 pub opens_on-requires : goal.opens_on-requires
 opens_on-requires g c = crashed_settled _ _ c.in-Ok.ensures

@@ -25,7 +25,7 @@ use Rattle.replica_opening.specs.Opened.{IsSettledOn}
 use Rattle.replica_opening.proofs.Clearings.{one_found}
 use Rattle.replica_opening.proofs.Settled.{restarted_settled}
 use Rattle.replica_state.specs.declared.parts.ReplicaParts.{ReplicaParts}
-use Rattle.replica_tests.specs.Stops.{IsFoundAs, in_flight, IsStillInFlight, GoesOn, FindsCommit, OpensAt, StandsAt, StandsAgain, HasInfosAgain}
+use Rattle.recovery_laws.specs.Stops.{IsFoundAs, in_flight, IsStillInFlight, GoesOn, FindsCommit, OpensAt, StandsAt, StandsAgain, HasInfosAgain}
 
 -- ---- a crash
 
