@@ -2,4 +2,3 @@ mod Due
 mod Listing
 mod Running
 mod Sources
-mod StopLaws

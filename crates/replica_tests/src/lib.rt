@@ -1,4 +1,4 @@
-//! Tests of replicas over a directory in memory, and laws of a replica that crashes.
+//! Tests of replicas over a directory in memory.
 #![tactic(auto)]
 
 #[cfg(test)]
@@ -9,4 +9,3 @@ mod finishing;
 mod jobs;
 #[cfg(test)]
 mod openings;
-pub mod stops;

@@ -77,9 +77,9 @@ fn files_of_one_row(rt: HostRuntime) -> Result<(), Fail> {
         (b"_10000.si", &INFO),
     ];
     assert_eq!(rt; built.files.as_slice().len(), 3);
-    for (file, (name, bytes)) in built.files.as_slice().iter().zip(due.iter()) {
-        assert_eq!(rt; file.0.as_slice(), *name);
-        assert_eq!(rt; file.1.as_slice(), *bytes);
+    for (file, due) in built.files.as_slice().iter().zip(due.iter()) {
+        assert_eq!(rt; file.0.as_slice(), due.0);
+        assert_eq!(rt; file.1.as_slice(), due.1);
     }
     Ok(())
 }

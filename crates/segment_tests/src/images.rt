@@ -31,7 +31,7 @@ fn image_of(alloc: Global, files: &[File<'_>]) -> Result<Vec<u8>, NoMemory> {
 }
 
 // The image of a directory of these documents, these postings and these infos.
-fn image(alloc: Global, docs: &[u8], infos: &[u8]) -> Result<Vec<u8>, NoMemory> {
+fn image<'a>(alloc: Global, docs: &'a [u8], infos: &'a [u8]) -> Result<Vec<u8>, NoMemory> {
     image_of(
         alloc,
         &[

@@ -34,10 +34,18 @@ use Rattle.script_serving.specs.Refusals.{refusal, put_publishes, may_be_full, m
 use Rattle.script_serving.specs.Replays.{due}
 use Rattle.script_serving.specs.Serves.{Begins, First, Follows, Suits, SuitsFault, FitsTurn, FitsReplay, Fits, is_newest_at, is_merge_fault, ServesLanes, Serves}
 use Rattle.script_serving.proofs.ServingLemmas.{known_line}
-use Rattle.serving_laws.specs.PlainServing.{StartsBy, HasStarted, WorksBy, IsAtWork, EndsBy, HasEnded, published_count, is_left_open, KeepsLanes, PlainlyServes}
+use Rattle.serving_laws.specs.PlainServing.{if_own, StartsBy, HasStarted, WorksBy, IsAtWork, EndsBy, HasEnded, published_count, is_left_open, KeepsLanes, PlainlyServes}
 use Rattle.serving_laws.proofs.ReplayLemmas.{at_itself, told, served_replays}
 
 -- ---- how far a line is
+
+own_is : (b : Bool) (X Y : Type 0) → b ≡ true → X → if_own b X Y
+own_is true X Y e x = x
+own_is false X Y e x = absurd (true≢false (sym e))
+
+other_is : (b : Bool) (X Y : Type 0) → b ≡ false → Y → if_own b X Y
+other_is true X Y e y = absurd (true≢false e)
+other_is false X Y e y = y
 
 -- one entry of the line more
 abbrev add : At → Event → Past → Past
@@ -71,12 +79,12 @@ started_by : (log : Bool) (command : LineCommand) (at : At) (past : Past) (x : E
     → is_answered at (add at x past) ≡ false → StartsBy command at past x (HasStarted command at past)
     → WorksBy command at past x (HasStarted command at past) (IsAtWork command at past) → Stands log command at (add at x past)
 started_by log command at past x same last answered starts works =
-    inr (inl (record { newest = x; last = last; answered = answered; work = rw same works; begun = λ copies. rw same starts }))
+    inr (inl (record { newest = x; last = last; answered = answered; work = own_is (same_at at at) _ _ same works; begun = λ copies. own_is (same_at at at) _ _ same starts }))
 
 -- the line has ended by an entry of its own
 ended_by : (log : Bool) (command : LineCommand) (at : At) (past : Past) (x : Event) → same_at at at ≡ true → last_of_line at (add at x past) ≡ Some x
     → is_answered at (add at x past) ≡ true → EndsBy log command at past x (IsAtWork command at past) (HasEnded log command at past) → Stands log command at (add at x past)
-ended_by log command at past x same last answered ends = inr (inr (record { newest = x; last = last; answered = answered; ended = rw same ends }))
+ended_by log command at past x same last answered ends = inr (inr (record { newest = x; last = last; answered = answered; ended = own_is (same_at at at) _ _ same ends }))
 
 -- ---- the first entry
 
@@ -169,11 +177,11 @@ follows log command at past last (Refused cause) same waits work begun h =
 follows log Publish at past last (Published g v) same waits work begun h =
     ended_by log Publish at past (Published g v) same (rw same refl) (rw same refl) (inr (tt, work))
 follows log (Copy n) at past (Copying k w) (Switched m v) same waits work begun h =
-    inr (inl (record { newest = Switched m v; last = rw same refl; answered = waits; work = rw same (h, begun refl); begun = λ copies. absurd (false≢true copies) }))
+    inr (inl (record { newest = Switched m v; last = rw same refl; answered = waits; work = own_is (same_at at at) _ _ same (h, begun refl); begun = λ copies. absurd (false≢true copies) }))
 follows log (Copy n) at past last (Copied m v) same waits work begun h =
     ended_by log (Copy n) at past (Copied m v) same (rw same refl) (rw same refl) (inr (h, work))
 follows log Settle at past last (Switched m v) same waits work begun h =
-    inr (inl (record { newest = Switched m v; last = rw same refl; answered = waits; work = rw same work; begun = λ copies. absurd (false≢true copies) }))
+    inr (inl (record { newest = Switched m v; last = rw same refl; answered = waits; work = own_is (same_at at at) _ _ same work; begun = λ copies. absurd (false≢true copies) }))
 follows log Settle at past last (Settled v) same waits work begun h =
     ended_by log Settle at past (Settled v) same (rw same refl) (rw same refl) (inr (tt, work))
 follows log (Search n query) at past last (Answered m t v q answer) same waits work begun h =
@@ -189,14 +197,14 @@ follows log command at past last x same waits work begun h = absurd h
 over_fault : (log : Bool) (command : LineCommand) (lines : List Line) (at : At) (past : Past) (n : NodeNo) (kind : FaultKind) → same_at at at ≡ true → Over log command at past
     → SuitsFault command lines at past → Stands log command at (add at (Met n kind) past)
 over_fault log (Merge factor) lines at past n kind same o h =
-    inr (inr (record { newest = o.newest; last = rw same o.last; answered = o.answered; ended = rw same o.ended }))
+    inr (inr (record { newest = o.newest; last = rw same o.last; answered = o.answered; ended = own_is (same_at at at) _ _ same o.ended }))
 over_fault log command lines at past n kind same o h = absurd (true≢false (sym o.answered ∙ h.0))
 
 fault : (log : Bool) (command : LineCommand) (lines : List Line) (at : At) (past : Past) (n : NodeNo) (kind : FaultKind) → same_at at at ≡ true → Stands log command at past
     → SuitsFault command lines at past → Stands log command at (add at (Met n kind) past)
 fault log command lines at past n kind same (inl fresh) h = inl (record { last = rw same fresh.last; answered = fresh.answered })
 fault log command lines at past n kind same (inr (inl w)) h =
-    inr (inl (record { newest = w.newest; last = rw same w.last; answered = w.answered; work = rw same w.work; begun = λ copies. rw same (w.begun copies) }))
+    inr (inl (record { newest = w.newest; last = rw same w.last; answered = w.answered; work = own_is (same_at at at) _ _ same w.work; begun = λ copies. own_is (same_at at at) _ _ same (w.begun copies) }))
 fault log command lines at past n kind same (inr (inr o)) h = over_fault log command lines at past n kind same o h
 
 -- ---- an entry of the line, whatever it is
@@ -237,15 +245,15 @@ elsewhere log command at past e other (inr (inl w)) =
       newest = w.newest;
       last = rw other w.last;
       answered = quiet (is_reply e.event) (same_at e.at at) (is_answered at past) other ∙ w.answered;
-      work = rw other w.work;
-      begun = λ copies. rw other (w.begun copies);
+      work = other_is (same_at e.at at) _ _ other w.work;
+      begun = λ copies. other_is (same_at e.at at) _ _ other (w.begun copies);
     }))
 elsewhere log command at past e other (inr (inr o)) =
     inr (inr (record {
       newest = o.newest;
       last = rw other o.last;
       answered = quiet (is_reply e.event) (same_at e.at at) (is_answered at past) other ∙ o.answered;
-      ended = rw other o.ended;
+      ended = other_is (same_at e.at at) _ _ other o.ended;
     }))
 
 -- ---- while operations are due the newest entry is a reply
@@ -362,11 +370,16 @@ earlier_more (line ∷ lines) at e past h = by (earlier_more lines at e past) (s
 or_so : (b c : Bool) → c ≡ true → (b || c) ≡ true
 or_so b c h = ap (λ (x : Bool). b || x) h ∙ or-true b
 
+order_of : (lines : List Line) (past : Past) (at : At) (command : LineCommand) (x : Event) → FitsTurn lines past at (Some command) x
+    → (is_merge_fault (Some command) x || earlier_answered lines at past) ≡ true
+order_of lines past at (Merge factor) (Met n kind) h = refl
+order_of lines past at command (Met n kind) h = or_so (is_merge_fault (Some command) (Met n kind)) (earlier_answered lines at past) h.1
+order_of lines past at command x h = or_so (is_merge_fault (Some command) x) (earlier_answered lines at past) h.1
+
 turn_order : (lines : List Line) (past : Past) (at : At) (command : Option LineCommand) (x : Event) → FitsTurn lines past at command x
     → (is_merge_fault command x || earlier_answered lines at past) ≡ true
 turn_order lines past at None x h = absurd h
-turn_order lines past at (Some (Merge factor)) (Met n kind) h = refl
-turn_order lines past at (Some command) x h = or_so (is_merge_fault (Some command) x) (earlier_answered lines at past) h.1
+turn_order lines past at (Some command) x h = order_of lines past at command x h
 
 promotes : (op : Op) (past : Past) (at : At) (command : Option LineCommand) (x y : Event) → FitsReplay op past at command x → is_merge_fault command y ≡ false
 promotes op past at (Some (Promote n force)) (Accepted seq again) y h = refl

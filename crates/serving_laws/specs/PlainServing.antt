@@ -1,5 +1,5 @@
 -- Plain serving: what a history of a script must do, and no more. Each line has its entries, and lines, phases and replays come in their order.
-use Rattle.std.specs.Prelude.{ℕ, ◌≡◌, ◌≤◌, ◌+◌, ◌⊎◌, [], ◌∷◌, reverse, Bool, true, false, ◌&&◌, ◌||◌, ◌==◌, nat_le, length, ⊤, Some, None, if◌then◌else◌}
+use Rattle.std.specs.Prelude.{ℕ, ◌≡◌, ◌≤◌, ◌+◌, ◌⊎◌, [], ◌∷◌, reverse, Bool, true, false, ◌&&◌, ◌||◌, ◌==◌, nat_le, length, ⊤, Some, None}
 use Rattle.nrt_base.specs.declared.numbers.At.{At}
 use Rattle.documents.specs.declared.operation.Op.TheVariants.{Put as PutOp, Delete as DeleteOp, Drop as DropOp}
 use Rattle.history_rules.specs.declared.cause.Cause.{Cause}
@@ -81,6 +81,11 @@ IsFree command at past = refusal command at.lane.0 past ≡ None
 abbrev pub IsUntouched : At → Past → Type 0
 IsUntouched at past = last_of_line at past ≡ None
 
+-- the first of an entry of the line, and the second of an entry of another
+abbrev pub if_own : Bool → Type 0 → Type 0 → Type 0
+if_own true own other = own
+if_own false own other = other
+
 -- The entry of its line starts it, where nothing refuses it; or it is a fault, and the line has started (`still`).
 abbrev pub StartsBy : LineCommand → At → Past → Event → Type 0 → Type 0
 StartsBy command at past (Met n kind) still = still
@@ -90,7 +95,7 @@ StartsBy command at past e still = Starts command e × IsFree command at past ×
 abbrev pub HasStarted : LineCommand → At → Past → Type 0
 HasStarted command at [] = ⊥
 HasStarted command at (e ∷ past) =
-    if same_at e.at at then StartsBy command at past e.event (HasStarted command at past) else HasStarted command at past
+    if_own (same_at e.at at) (StartsBy command at past e.event (HasStarted command at past)) (HasStarted command at past)
 
 -- The entry of its line starts it; or it switches a replica, once for a copy and as often as it likes for a settle; or it is a fault.
 abbrev pub WorksBy : LineCommand → At → Past → Event → Type 0 → Type 0 → Type 0
@@ -103,7 +108,7 @@ WorksBy command at past e started still = Starts command e × IsFree command at 
 abbrev pub IsAtWork : LineCommand → At → Past → Type 0
 IsAtWork command at [] = ⊥
 IsAtWork command at (e ∷ past) =
-    if same_at e.at at then WorksBy command at past e.event (HasStarted command at past) (IsAtWork command at past) else IsAtWork command at past
+    if_own (same_at e.at at) (WorksBy command at past e.event (HasStarted command at past) (IsAtWork command at past)) (IsAtWork command at past)
 
 -- The entry of its line ends it: it is refused, at once or at work; or it has its reply, at once or at work. Behind that a merge meets faults,
 -- and with a log a promotion accepts operations again (`still`).
@@ -118,7 +123,7 @@ EndsBy log command at past e work still = (RepliesAtOnce command past e × IsFre
 abbrev pub HasEnded : Bool → LineCommand → At → Past → Type 0
 HasEnded log command at [] = ⊥
 HasEnded log command at (e ∷ past) =
-    if same_at e.at at then EndsBy log command at past e.event (IsAtWork command at past) (HasEnded log command at past) else HasEnded log command at past
+    if_own (same_at e.at at) (EndsBy log command at past e.event (IsAtWork command at past) (HasEnded log command at past)) (HasEnded log command at past)
 
 -- each entry is of a line of the script, and comes after the replies of the lines before it in its lane, faults of merges excepted
 abbrev pub KeepsLanes : Script → Past → Type 0

@@ -1,5 +1,6 @@
-mod RecordLaws
-mod FileLaws
-mod LogNames
 mod Appending
+pub mod Calm
+mod FileLaws
 mod LogFound
+mod LogNames
+mod RecordLaws

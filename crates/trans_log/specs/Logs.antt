@@ -1,6 +1,7 @@
 -- The log in a directory: which records its files are, and what a crash leaves of them.
 use Rattle.std.specs.Prelude.{◌≡◌, ◌≢◌, ◌⊎◌, ℕ, suc, ◌<◌, true, List, [], ◌∷◌, ◌++◌, length, Option, Some, None, IsSomeAnd, OnOk, Result, Ok, Err}
 use Rattle.disk_model.specs.Disk.{Name, Content, Cell, Cells, Image, IsImage, IsKept, may_leave}
+use Rattle.disk_model.specs.Faults.{Plans}
 use Rattle.disk_model.specs.declared.dir.DirFault.{DirFault}
 use Rattle.disk_model.specs.declared.dir.DirFault.TheVariants.{Memory as DirMemory, Failed as DirFailed}
 use Rattle.trans_log.specs.declared.record.LogOp.{LogOp}
@@ -89,3 +90,8 @@ pub record Appends {T E : Type 0} (number : ℕ) (r : LogOp) (before after : Cel
   pub others : KeepsOthers number before after
   pub shows : MayShow number r before after
   pub done : OnOk result (IsPublished number r after)
+
+-- no fault is planned for the directory, as far as its plans are known
+abbrev pub IsCalm : Option Plans → Type 0
+IsCalm None = ⊥
+IsCalm (Some p) = (p.once ≡ 0) × (p.stop ≡ 0)

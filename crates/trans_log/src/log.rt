@@ -6,7 +6,7 @@ ghost use Rattle.disk_model.specs.Disk.{after_rename};
 ghost use Rattle.disk_model.specs.Faults.{IsMemoryOrFailed, CountsFaults};
 ghost use Rattle.trans_log.specs.Names.{log_name_of, pending_log_name_of, IsRecordNumber};
 ghost use Rattle.trans_log.specs.Opening.{IsLogCutOff};
-ghost use Rattle.trans_log.specs.Logs.{dir_answer_of, in_flight, IsFileContent, IsWritten, IsPublished, MayShow, KeepsOthers, Appends, IsOpenLog, IsLogSafe, ImagesRead};
+ghost use Rattle.trans_log.specs.Logs.{dir_answer_of, in_flight, IsFileContent, IsWritten, IsPublished, MayShow, KeepsOthers, Appends, IsOpenLog, IsLogSafe, ImagesRead, IsCalm};
 
 use crate::names::{log_name, pending_log_name};
 use crate::record::{LogOp, encode};
@@ -59,6 +59,7 @@ pub(crate) fn refusal(fault: DirFault) -> LogFault
     requires { IsMemoryOrFailed fault }
     ensures answer { dir_answer_of (Err result) ≡ Err fault }
     ensures failed { result ≡ LogFault.Failed → fault ≡ DirFault.Failed }
+    ensures memory { (fault ≡ DirFault.Failed → ⊥) → result ≡ LogFault.Memory }
     ensures cut { IsLogCutOff result }
 {
     match fault {
@@ -82,6 +83,8 @@ fn write_record<D: Dir>(
         → D.cells dir.new q ≡ D.cells dir.old q }
     ensures failed { IsErrOf result LogFault.Failed → Rose (D.faults dir.old) (D.faults dir.new) }
     ensures later { D.faults dir.old ≤ D.faults dir.new }
+    ensures calm { IsCalm (D.plans dir.old) → IsCalm (D.plans dir.new) }
+    ensures only { IsCalm (D.plans dir.old) → OnErr result (IsErrOf result LogFault.Memory) }
 {
     let bytes = encode(alloc, number, entry)?;
     match dir.write_new(&pending_log_name(number), bytes) {
@@ -98,6 +101,8 @@ fn sync_one<D: Dir>(dir: &mut D, name: &FileName) -> Result<(), LogFault>
     ensures others { (q : List ℕ) → name.now ≢ q → D.cells dir.new q ≡ D.cells dir.old q }
     ensures failed { IsErrOf result LogFault.Failed → Rose (D.faults dir.old) (D.faults dir.new) }
     ensures later { D.faults dir.old ≤ D.faults dir.new }
+    ensures calm { IsCalm (D.plans dir.old) → IsCalm (D.plans dir.new) }
+    ensures only { IsCalm (D.plans dir.old) → OnErr result (IsErrOf result LogFault.Memory) }
 {
     match dir.sync(&[*name]) {
         Ok(()) => Ok(()),
@@ -113,6 +118,8 @@ fn rename_record<D: Dir>(number: u32, dir: &mut D) -> Result<(), LogFault>
         (log_name_of number) (dir_answer_of result) }
     ensures failed { IsErrOf result LogFault.Failed → Rose (D.faults dir.old) (D.faults dir.new) }
     ensures later { D.faults dir.old ≤ D.faults dir.new }
+    ensures calm { IsCalm (D.plans dir.old) → IsCalm (D.plans dir.new) }
+    ensures only { IsCalm (D.plans dir.old) → OnErr result (IsErrOf result LogFault.Memory) }
 {
     match dir.rename(&pending_log_name(number), &log_name(number)) {
         Ok(()) => Ok(()),
@@ -134,6 +141,8 @@ fn write_pending<D: Dir>(
         → D.cells dir.new q ≡ D.cells dir.old q }
     ensures failed { IsErrOf result LogFault.Failed → Rose (D.faults dir.old) (D.faults dir.new) }
     ensures later { D.faults dir.old ≤ D.faults dir.new }
+    ensures calm { IsCalm (D.plans dir.old) → IsCalm (D.plans dir.new) }
+    ensures only { IsCalm (D.plans dir.old) → OnErr result (IsErrOf result LogFault.Memory) }
 {
     write_record(alloc, number, entry, dir)?;
     sync_one(dir, &pending_log_name(number))
@@ -147,6 +156,8 @@ fn publish<D: Dir>(number: u32, dir: &mut D) -> Result<(), LogFault>
         → Appends number r (D.cells dir.old) (D.cells dir.new) result }
     ensures failed { IsErrOf result LogFault.Failed → Rose (D.faults dir.old) (D.faults dir.new) }
     ensures later { D.faults dir.old ≤ D.faults dir.new }
+    ensures calm { IsCalm (D.plans dir.old) → IsCalm (D.plans dir.new) }
+    ensures only { IsCalm (D.plans dir.old) → OnErr result (IsErrOf result LogFault.Memory) }
 {
     rename_record(number, dir)?;
     match dir.sync_names() {
@@ -167,6 +178,8 @@ fn append_file<D: Dir>(
     ensures appends { Appends number entry.now (D.cells dir.old) (D.cells dir.new) result }
     ensures failed { IsErrOf result LogFault.Failed → Rose (D.faults dir.old) (D.faults dir.new) }
     ensures later { D.faults dir.old ≤ D.faults dir.new }
+    ensures calm { IsCalm (D.plans dir.old) → IsCalm (D.plans dir.new) }
+    ensures only { IsCalm (D.plans dir.old) → OnErr result (IsErrOf result LogFault.Memory) }
 {
     write_pending(alloc, number, entry, dir)?;
     publish(number, dir)
@@ -223,6 +236,11 @@ impl<D: Dir> TransLog<D> {
         ensures failed { IsErrOf result LogFault.Failed
             → Rose (D.faults self.old.dir) (D.faults self.new.dir) }
         ensures later { D.faults self.old.dir ≤ D.faults self.new.dir }
+
+        // Where no fault is planned for the directory, none is after, and memory alone is wanting.
+        ensures calm { IsCalm (D.plans self.old.dir) → IsCalm (D.plans self.new.dir) }
+        ensures only { IsCalm (D.plans self.old.dir)
+            → OnErr result (IsErrOf result LogFault.Memory) }
 
         // What the directory has.
         ensures others { KeepsOthers (suc (length self.old.records.items)) (D.cells self.old.dir)

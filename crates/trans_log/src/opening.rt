@@ -4,7 +4,7 @@ ghost use Rattle.std.specs.Prelude.{◌≡◌, ◌≢◌, ◌⊎◌, ◌++◌, �
 ghost use Rattle.nrt_base.specs.Causes.{Rose};
 ghost use Rattle.disk_model.specs.Disk.{is_among, reads_of, after_remove};
 ghost use Rattle.trans_log.specs.Names.{IsRecordNumber, log_name_of, pending_log_name_of, IsLogName, IsPendingLogName};
-ghost use Rattle.trans_log.specs.Logs.{HasRecord, Numbered, ReadsRecords, IsOpenLog, IsLogSafe, SameLogs, IsClear, dir_answer_of};
+ghost use Rattle.trans_log.specs.Logs.{HasRecord, Numbered, ReadsRecords, IsOpenLog, IsLogSafe, SameLogs, IsClear, IsCalm, dir_answer_of};
 ghost use Rattle.trans_log.specs.Opening.{IsLastNumber, IsFirstGap, HasEach, IsLogCutOff, IsFaultOrCutOff, IsRefusedAt, IsBrokenRecord, IsBrokenLog, IsGap, SaysRecord, SaysRecords, SaysLog, KeepsButPending};
 
 use crate::log::{LogFault, TransLog, refusal};
@@ -59,6 +59,7 @@ fn first_gap<D: Dir>(last: u32, dir: &D) -> Option<u32>
 }
 
 // The record of this number, which has a file.
+#[tactic(auto, using(crate::proofs::Calm::calm_stays, crate::proofs::Calm::never_told))]
 fn read_record<D: Dir>(alloc: Global, number: u32, dir: &mut D) -> Result<LogOp, LogFault>
     requires { IsSome (D.cells dir.old (log_name_of number)).now }
     ensures ok { IfOk result (HasRecord (reads_of (D.cells dir.old)) number) }
@@ -71,6 +72,8 @@ fn read_record<D: Dir>(alloc: Global, number: u32, dir: &mut D) -> Result<LogOp,
     ensures cells { D.cells dir.new ≡ D.cells dir.old }
     ensures failed { IsErrOf result LogFault.Failed → Rose (D.faults dir.old) (D.faults dir.new) }
     ensures later { D.faults dir.old ≤ D.faults dir.new }
+    ensures calm { IsCalm (D.plans dir.old) → IsCalm (D.plans dir.new) }
+    ensures unfailed { IsCalm (D.plans dir.old) → IsErrOf result LogFault.Failed → ⊥ }
 {
     let name = log_name(number);
     match dir.load(&name) {
@@ -109,6 +112,8 @@ fn read_records<D: Dir>(alloc: Global, last: u32, dir: &mut D) -> Result<Vec<Log
     ensures cells { D.cells dir.new ≡ D.cells dir.old }
     ensures failed { IsErrOf result LogFault.Failed → Rose (D.faults dir.old) (D.faults dir.new) }
     ensures later { D.faults dir.old ≤ D.faults dir.new }
+    ensures calm { IsCalm (D.plans dir.old) → IsCalm (D.plans dir.new) }
+    ensures unfailed { IsCalm (D.plans dir.old) → IsErrOf result LogFault.Failed → ⊥ }
 {
     let mut records = Vec::new(alloc);
     for index in 0..last {
@@ -126,6 +131,8 @@ fn list<D: Dir>(dir: &mut D) -> Result<Vec<FileName>, LogFault>
     ensures cells { D.cells dir.new ≡ D.cells dir.old }
     ensures failed { IsErrOf result LogFault.Failed → Rose (D.faults dir.old) (D.faults dir.new) }
     ensures later { D.faults dir.old ≤ D.faults dir.new }
+    ensures calm { IsCalm (D.plans dir.old) → IsCalm (D.plans dir.new) }
+    ensures unfailed { IsCalm (D.plans dir.old) → IsErrOf result LogFault.Failed → ⊥ }
 {
     match dir.list() {
         Ok(names) => Ok(names),
@@ -147,6 +154,8 @@ fn find<D: Dir>(alloc: Global, names: &[FileName], dir: &mut D) -> Result<Vec<Lo
     ensures cells { D.cells dir.new ≡ D.cells dir.old }
     ensures failed { IsErrOf result LogFault.Failed → Rose (D.faults dir.old) (D.faults dir.new) }
     ensures later { D.faults dir.old ≤ D.faults dir.new }
+    ensures calm { IsCalm (D.plans dir.old) → IsCalm (D.plans dir.new) }
+    ensures unfailed { IsCalm (D.plans dir.old) → IsErrOf result LogFault.Failed → ⊥ }
 {
     let last = last_number(names);
     match first_gap(last, dir) {
@@ -162,6 +171,8 @@ fn remove_file<D: Dir>(name: &FileName, dir: &mut D) -> Result<(), LogFault>
     ensures err { IfErr result IsLogCutOff }
     ensures failed { IsErrOf result LogFault.Failed → Rose (D.faults dir.old) (D.faults dir.new) }
     ensures later { D.faults dir.old ≤ D.faults dir.new }
+    ensures calm { IsCalm (D.plans dir.old) → IsCalm (D.plans dir.new) }
+    ensures unfailed { IsCalm (D.plans dir.old) → IsErrOf result LogFault.Failed → ⊥ }
 {
     match dir.remove(name) {
         Ok(()) => Ok(()),
@@ -179,6 +190,8 @@ fn remove_pending<D: Dir>(name: &FileName, dir: &mut D) -> Result<(), LogFault>
     ensures err { IfErr result IsLogCutOff }
     ensures failed { IsErrOf result LogFault.Failed → Rose (D.faults dir.old) (D.faults dir.new) }
     ensures later { D.faults dir.old ≤ D.faults dir.new }
+    ensures calm { IsCalm (D.plans dir.old) → IsCalm (D.plans dir.new) }
+    ensures unfailed { IsCalm (D.plans dir.old) → IsErrOf result LogFault.Failed → ⊥ }
 {
     let Some(_) = pending_log_of(name) else {
         return Ok(());
@@ -200,6 +213,8 @@ fn sweep<D: Dir>(names: &[FileName], dir: &mut D) -> Result<(), LogFault>
     ensures err { IfErr result IsLogCutOff }
     ensures failed { IsErrOf result LogFault.Failed → Rose (D.faults dir.old) (D.faults dir.new) }
     ensures later { D.faults dir.old ≤ D.faults dir.new }
+    ensures calm { IsCalm (D.plans dir.old) → IsCalm (D.plans dir.new) }
+    ensures unfailed { IsCalm (D.plans dir.old) → IsErrOf result LogFault.Failed → ⊥ }
 {
     for name in names {
         remove_pending(name, dir)?;
@@ -221,6 +236,8 @@ fn read_log<D: Dir>(alloc: Global, dir: &mut D) -> Result<Vec<LogOp>, LogFault>
     ensures others { KeepsButPending (D.cells dir.old) (D.cells dir.new) }
     ensures failed { IsErrOf result LogFault.Failed → Rose (D.faults dir.old) (D.faults dir.new) }
     ensures later { D.faults dir.old ≤ D.faults dir.new }
+    ensures calm { IsCalm (D.plans dir.old) → IsCalm (D.plans dir.new) }
+    ensures unfailed { IsCalm (D.plans dir.old) → IsErrOf result LogFault.Failed → ⊥ }
 {
     let names = list(dir)?;
     let records = find(alloc, &names, dir)?;
@@ -254,6 +271,12 @@ impl<D: Dir> TransLog<D> {
             (λ refused. KeepsButPending (D.cells dir) (D.cells refused.dir)) }
         ensures later { MatchResult result (λ log. D.faults dir ≤ D.faults log.dir)
             (λ refused. D.faults dir ≤ D.faults refused.dir) }
+
+        // Where no fault is planned for the directory, none is after, and the disk does not fail.
+        ensures calm { IsCalm (D.plans dir) → MatchResult result (λ log. IsCalm (D.plans log.dir))
+            (λ refused. IsCalm (D.plans refused.dir)) }
+        ensures unfailed { IsCalm (D.plans dir)
+            → IfErr result (λ refused. refused.fault ≡ LogFault.Failed → ⊥) }
 
         // The log that is opened.
         ensures ended { IfOk result (λ log. log.ended ≡ false) }

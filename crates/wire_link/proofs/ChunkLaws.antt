@@ -1,5 +1,5 @@
 -- What is sent of a file in chunks, and what is brought of them.
-use Rattle.std.proofs.Common.{◌≡◌, ℕ, ◌+◌, ◌<◌, ◌≤◌, List, [], ◌∷◌, ◌++◌, length, take, drop, get_or, refl, sym, ap, subst, ◌∙◌, append_assoc, arith}
+use Rattle.std.proofs.Common.{◌≡◌, ℕ, ◌+◌, ◌<◌, ◌≤◌, List, [], ◌∷◌, ◌++◌, length, drop, refl, sym, ap, subst, ◌∙◌, append_assoc, arith}
 use Rattle.std.specs.Prelude.{◌-◌, slice_range, slice_index_or}
 use Rattle.std.specs.List.{All, flat_map}
 use Rattle.std.proofs.lemmas.List.{append-nil, length-append, length-take-le, length-drop, take-append-drop, drop-drop, drop_all, drop_more}
@@ -48,14 +48,21 @@ module _ (stream front back : List ℕ) (whole : stream ≡ front ++ back) where
 -- ---- what was sent and brought
 
 -- a list of one
-single : (messages : List Message) (d : Message) → length messages ≡ 1 → messages ≡ slice_index_or messages 0 d ∷ []
-single [] d one = absurd (omega (arith, one))
-single (m ∷ []) d one = refl
-single (m ∷ n ∷ messages) d one = absurd (omega (arith, one))
+single : (messages : List Message) (m : Message) → m ≡ slice_index_or messages 0 m → length messages ≡ 1 → messages ≡ m ∷ []
+single [] m is one = absurd (omega (arith, one))
+single (n ∷ []) m is one = ap (λ (x : Message). x ∷ []) (sym is)
+single (n ∷ k ∷ messages) m is one = absurd (omega (arith, one))
 
 -- the messages from a place on
 pub from_place : (messages : List Message) (i : ℕ) (m : Message) → m ≡ slice_index_or messages i m → i < length messages → drop i messages ≡ m ∷ drop (i + 1) messages
 from_place messages i m is within = drop_more messages i m within ∙ ap (λ (x : Message). x ∷ drop (i + 1) messages) (sym is)
+
+-- how long a part of the bytes is
+pub part_size : (bytes : List ℕ) (done end : ℕ) (part : List ℕ) → end ≤ length bytes → part ≡ slice_range bytes done end → length part ≡ end - done
+part_size bytes done end part within is =
+    let rest = length-drop done bytes in
+    let some : end - done ≤ length (drop done bytes) = omega (arith, rest, within) in
+    ap length is ∙ length-take-le (end - done) (drop done bytes) some
 
 module _ (name : List ℕ) (at : ℕ) (bytes : List ℕ) where
   -- what stands behind the first bytes begins at the first place
@@ -76,12 +83,10 @@ module _ (name : List ℕ) (at : ℕ) (bytes : List ℕ) where
   module _ (done end : ℕ) (stream next part : List ℕ) (sent : HasSent name at bytes done stream) (later : done ≤ end) (within : end ≤ length bytes) (is : part ≡ slice_range bytes done end) where
     split : drop done bytes ≡ part ++ drop end bytes
     split =
+        let next_place : done + (end - done) ≡ end = omega (arith, later) in
         sym (take-append-drop (end - done) (drop done bytes))
         ∙ ap (λ (p : List ℕ). p ++ drop (end - done) (drop done bytes)) (sym is)
-        ∙ ap (λ (r : List ℕ). part ++ r) (drop-drop (end - done) done bytes ∙ ap (λ (n : ℕ). drop n bytes) (omega (arith, later)))
-
-    size : length part ≡ end - done
-    size = ap length is ∙ length-take-le (end - done) (drop done bytes) (let n = length-drop done bytes in omega (arith, n, within, later))
+        ∙ ap (λ (r : List ℕ). part ++ r) (drop-drop (end - done) done bytes ∙ ap (λ (n : ℕ). drop n bytes) next_place)
 
     pub sent_on : IsFramable (Chunk name (at + done) part) → next ≡ stream ++ wire_of (Chunk name (at + done) part) → HasSent name at bytes end next
     sent_on framable put = record { within = within; goes_on = on }
@@ -91,6 +96,7 @@ module _ (name : List ℕ) (at : ℕ) (bytes : List ℕ) where
             let chunk : Message = Chunk name (at + done) part in
             let whole : stream ++ flat_map wire_of (chunk ∷ messages) ≡ next ++ flat_map wire_of messages =
             sym (append_assoc stream (wire_of chunk) (flat_map wire_of messages)) ∙ ap (λ (x : List ℕ). x ++ flat_map wire_of messages) (sym put) in
+            let size = part_size bytes done end part within is in
             let place : at + end ≡ at + done + length part = omega (arith, size, later) in
             let there : BringsFrom name (at + done + length part) (drop end bytes) messages = subst (λ (n : ℕ). BringsFrom name n (drop end bytes) messages) place brings in
             subst (IsStreamOf name at bytes) whole (sent.goes_on (chunk ∷ messages) (All-cons IsFramable chunk messages framable each) (part, drop end bytes, refl, split, there))
@@ -100,10 +106,12 @@ module _ (name : List ℕ) (at : ℕ) (bytes : List ℕ) where
 
   pub brought_first : (file : List ℕ) (messages : List Message) → file ≡ [] → BringsFrom name at bytes messages → HasBrought name at bytes file messages
   brought_first file messages none brings =
+      let empty = ap length none in
+      let here : at ≡ at + length file = omega (arith, empty) in
       record {
         rest = bytes;
         parts = ap (λ (f : List ℕ). f ++ bytes) (sym none);
-        brings = subst (λ (n : ℕ). BringsFrom name n bytes messages) (let n = ap length none in omega (arith, n)) brings;
+        brings = subst (λ (n : ℕ). BringsFrom name n bytes messages) here brings;
       }
 
   module _ (file : List ℕ) (m : Message) (messages all : List Message) (front : all ≡ m ∷ messages) (brought : HasBrought name at bytes file all) where
@@ -118,6 +126,9 @@ module _ (name : List ℕ) (at : ℕ) (bytes : List ℕ) where
     brought_on place part added whole is same put =
         let equal : part ≡ next.0 = let other = next.2 in cc (is, other) in
         let longer : whole ≡ file ++ part = put ∙ ap (λ (p : List ℕ). file ++ p) same in
+        let size = ap length longer ∙ length-append file part in
+        let like = ap length equal in
+        let there : at + length file + length next.0 ≡ at + length whole = omega (arith, size, like) in
         record {
           rest = next.1;
           parts =
@@ -125,8 +136,7 @@ module _ (name : List ℕ) (at : ℕ) (bytes : List ℕ) where
               ∙ ap (λ (r : List ℕ). file ++ r) (next.3 ∙ ap (λ (p : List ℕ). p ++ next.1) (sym equal))
               ∙ sym (append_assoc file part next.1)
               ∙ ap (λ (f : List ℕ). f ++ next.1) (sym longer);
-          brings = subst (λ (n : ℕ). BringsFrom name n next.1 messages)
-              (let n = ap length longer ∙ length-append file part in let k = ap length equal in omega (arith, n, k)) next.4;
+          brings = subst (λ (n : ℕ). BringsFrom name n next.1 messages) there next.4;
         }
 
   pub brought_last : (file : List ℕ) (messages : List Message) → messages ≡ [] → HasBrought name at bytes file messages → file ≡ bytes
@@ -146,15 +156,9 @@ module _ (name : List ℕ) (at : ℕ) (bytes : List ℕ) where
       → ((messages : List Message) → BeginsWith seen messages [] → read ≡ messages) → lent ≡ read → BringsFrom name at bytes lent
   stream_brings stream seen read lent s is all same = subst (BringsFrom name at bytes) (sym (same ∙ all s.messages (stream_begins stream seen s is))) s.brings
 
-  -- where there is one message, its bytes are all
-  pub only_chunk : (messages : List Message) (d : Message) → length messages ≡ 1 → BringsFrom name at bytes messages → IsChunkAt name (at + 0) (slice_index_or messages 0 d)
-  only_chunk messages d one brings =
-      let b = subst (BringsFrom name at bytes) (single messages d one) brings in
+  -- the only message is a chunk
+  pub only_chunk : (messages : List Message) (m : Message) → m ≡ slice_index_or messages 0 m → length messages ≡ 1 → BringsFrom name at bytes messages → IsChunkAt name (at + 0) m
+  only_chunk messages m is one brings =
+      let alone = subst (BringsFrom name at bytes) (single messages m is one) brings in
       let here : at ≡ at + 0 = omega arith in
-      subst (λ (n : ℕ). IsChunkAt name n (slice_index_or messages 0 d)) here (b.0, b.2)
-
-  pub only_bytes : (messages : List Message) (d : Message) (place : ℕ) (part : List ℕ) → length messages ≡ 1 → BringsFrom name at bytes messages → slice_index_or messages 0 d ≡ Chunk name place part → part ≡ bytes
-  only_bytes messages d place part one brings is =
-      let b = subst (BringsFrom name at bytes) (single messages d one) brings in
-      let same : part ≡ b.0 = let other = b.2 in cc (is, other) in
-      same ∙ sym (b.3 ∙ ap (λ (r : List ℕ). b.0 ++ r) b.4 ∙ append-nil b.0)
+      subst (λ (n : ℕ). IsChunkAt name n m) here (alone.0, alone.2)

@@ -1,6 +1,6 @@
 //! What a stream of chunk frames brings, read as a peer reads it: in two pieces, by one decoder.
 
-ghost use Rattle.std.specs.Prelude.{◌≡◌, ◌++◌, ◌+◌, ℕ, List, [], length, IfOk};
+ghost use Rattle.std.specs.Prelude.{◌≡◌, ◌++◌, ◌+◌, ℕ, List, [], IfOk};
 ghost use Rattle.wire_frames.specs.declared.message.Message.{Message};
 ghost use Rattle.wire_frames.specs.declared.message.Message.TheVariants.{Chunk};
 ghost use Rattle.wire_frames.specs.Streams.{AreMessagesOf, BeginsWith, IsStreamFault, IsUnfinished};

@@ -40,6 +40,7 @@ loop-index-preserved g c = record {
       (subst (λ (cs : Cells). (q : Name) (f : FileFault) → IsRefusedAt (reads_of cs) (c.loop-index.index + 1) q f → ⊥) c.loop-index.invariant.cells c.in_ok-entry.ensures.refused);
   cells = c.read_record.ensures.cells ∙ c.loop-index.invariant.cells;
   later = omega (arith, c.read_record.ensures.later, c.loop-index.invariant.later);
+  calm = λ none. c.read_record.ensures.calm (c.loop-index.invariant.calm none);
 }
 
 pub returns-clause-broken : goal.returns-clause-broken

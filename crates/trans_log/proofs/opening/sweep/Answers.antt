@@ -12,6 +12,7 @@ loop-name-preserved g c = record {
   none = λ q e. c.remove_pending.ensures.none q (c.loop-name.invariant.none q e);
   others = λ q never. c.remove_pending.ensures.others q never ∙ c.loop-name.invariant.others q never;
   later = omega (arith, c.remove_pending.ensures.later, c.loop-name.invariant.later);
+  calm = λ none. c.remove_pending.ensures.calm (c.loop-name.invariant.calm none);
 }
 
 pub returns-clause-gone : goal.returns-clause-gone

@@ -1,6 +1,7 @@
 use Rattle.std.proofs.Common.{◌≡◌, ◌≤◌, ℕ, List, take, true, None}
 use Rattle.disk_model.specs.Disk.{is_among}
 use Rattle.trans_log.specs.Names.{IsRecordNumber, pending_log_name_of}
+use Rattle.trans_log.specs.Logs.{IsCalm}
 use Rattle.trans_log.specs.Opening.{KeepsButPending}
 use Rattle.trans_log.proofs.opening.sweep.Given as goal
 
@@ -11,4 +12,5 @@ invariant-loop-name g l = record {
   none : (q : List ℕ) → (g.D.Dir.cells l.initial.dir q).now ≡ None → (g.D.Dir.cells l.dir q).now ≡ None;
   others : KeepsButPending (g.D.Dir.cells l.initial.dir) (g.D.Dir.cells l.dir);
   later : g.D.Dir.faults l.initial.dir ≤ g.D.Dir.faults l.dir;
+  calm : IsCalm (g.D.Dir.plans l.initial.dir) → IsCalm (g.D.Dir.plans l.dir);
 }

@@ -1,8 +1,8 @@
 use Rattle.std.proofs.Common.{ap, sym, subst}
 use Rattle.std.specs.Prelude.{IsSome}
-use Rattle.replica_tests.specs.Stops.{GoesOn}
-use Rattle.replica_tests.proofs.StopLaws.{reopened_behind}
-use Rattle.replica_tests.proofs.stops.reopens_after_stop.Goals as goal
+use Rattle.recovery_laws.specs.Stops.{GoesOn}
+use Rattle.recovery_laws.proofs.StopLaws.{reopened_behind}
+use Rattle.recovery_laws.proofs.stops.reopens_after_stop.Goals as goal
 
 pub returns : goal.returns
 returns g c =

@@ -1,10 +1,10 @@
 use Rattle.std.proofs.Common.{refl, subst}
 use Rattle.disk_model.specs.Disk.{HasCrashed}
-use Rattle.replica_tests.proofs.StopLaws.{crashed_settled, reopened}
-use Rattle.replica_tests.proofs.stops.reopens.Goals as goal
+use Rattle.recovery_laws.proofs.StopLaws.{crashed_settled, reopened}
+use Rattle.recovery_laws.proofs.stops.reopens.Goals as goal
 
 pub opens_on-requires : goal.opens_on-requires
-opens_on-requires g c = crashed_settled _ _ c.in-Ok.ensures
+opens_on-requires g c = crashed_settled (g.D.Dir.cells c.into_dir.result) (g.D.Dir.cells c.in-Ok.dir) c.in-Ok.ensures
 
 pub returns-in-Ok : goal.returns-in-Ok
 returns-in-Ok g c =

@@ -1,7 +1,7 @@
 use Rattle.std.proofs.Common.{refl, sym, ap, subst}
 use Rattle.disk_model.specs.Disk.{HasCrashed}
-use Rattle.replica_tests.proofs.StopLaws.{finds_commit, only_cut_off}
-use Rattle.replica_tests.proofs.stops.recovers.Goals as goal
+use Rattle.recovery_laws.proofs.StopLaws.{finds_commit, only_cut_off}
+use Rattle.recovery_laws.proofs.stops.recovers.Goals as goal
 
 pub returns-in-Ok-clause-found : goal.returns-in-Ok-clause-found
 returns-in-Ok-clause-found g c =

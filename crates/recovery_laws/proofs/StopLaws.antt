@@ -25,7 +25,7 @@ use Rattle.replica_opening.specs.Opened.{IsSettledOn}
 use Rattle.replica_opening.proofs.Clearings.{one_found}
 use Rattle.replica_opening.proofs.Settled.{restarted_settled}
 use Rattle.replica_state.specs.declared.parts.ReplicaParts.{ReplicaParts}
-use Rattle.replica_tests.specs.Stops.{IsFoundAs, in_flight, IsStillInFlight, GoesOn, FindsCommit, OpensAt, StandsAt, StandsAgain, HasInfosAgain}
+use Rattle.recovery_laws.specs.Stops.{IsFoundAs, in_flight, IsStillInFlight, GoesOn, FindsCommit, OpensAt, StandsAt, StandsAgain, HasInfosAgain}
 
 -- ---- a crash
 
@@ -90,7 +90,7 @@ sound_flight cells last None safe = tt
 sound_flight cells last (Some c) safe = safe.in_flight.commit
 
 module _ {D : Type 0} (was : ReplicaParts D) (before after : Cells) (crash : HasCrashed before after) (stand : ImagesStand before was.commits.last (shown_by was.commits.stage)) where
-  image : Image
+  abbrev image : Image
   image = crash.0
 
   same_reads : reads_of after ≡ image

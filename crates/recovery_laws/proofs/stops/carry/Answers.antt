@@ -1,6 +1,6 @@
 use Rattle.std.proofs.Common.{refl, inl}
-use Rattle.replica_tests.proofs.StopLaws.{still_then, goes_then}
-use Rattle.replica_tests.proofs.stops.carry.Goals as goal
+use Rattle.recovery_laws.proofs.StopLaws.{still_then, goes_then}
+use Rattle.recovery_laws.proofs.stops.carry.Goals as goal
 
 pub loop-init : goal.loop-init
 loop-init g c = (c.requires.standing, record { last = refl; flight = refl; some = c.requires.in_flight })

@@ -1,6 +1,6 @@
 use Rattle.std.proofs.Common.{◌∙◌, inl, sym}
-use Rattle.replica_tests.proofs.StopLaws.{is_made, step_goes, step_more, stays_in_flight}
-use Rattle.replica_tests.proofs.stops.goes_on.Goals as goal
+use Rattle.recovery_laws.proofs.StopLaws.{is_made, step_goes, step_more, stays_in_flight}
+use Rattle.recovery_laws.proofs.stops.goes_on.Goals as goal
 
 pub returns-in-Ok-clause-goes : goal.returns-in-Ok-clause-goes
 returns-in-Ok-clause-goes g c = step_goes c.args.replica.now.commits c.commit_step.new.self.commits c.requires.in_flight (rw c.in-Ok.is at c.commit_step.ensures.ok)

@@ -5,7 +5,7 @@ ghost use Rattle.disk_model.specs.Disk.{HasCrashed};
 ghost use Rattle.commit_steps.specs.Recovery.{IsCutOff};
 ghost use Rattle.replica_opening.specs.Opened.{IsSettledOn};
 ghost use Rattle.replica_state.specs.Replica.{AreStanding};
-ghost use Rattle.replica_tests.specs.Stops.{FindsCommit, GoesOn, IsStillInFlight, OpensAt, StandsAgain, HasInfosAgain};
+ghost use Rattle.recovery_laws.specs.Stops.{FindsCommit, GoesOn, IsStillInFlight, OpensAt, StandsAgain, HasInfosAgain};
 
 use commit_steps::{RecoverFault, recover};
 use disk_model::FaultDir;

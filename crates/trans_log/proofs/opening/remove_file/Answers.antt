@@ -1,0 +1,12 @@
+use Rattle.std.proofs.Common.{refl}
+use Rattle.trans_log.proofs.Calm.{calm_stays, never_told}
+use Rattle.trans_log.proofs.opening.remove_file.Goals as goal
+
+pub returns-in-Ok-clause-calm : goal.returns-in-Ok-clause-calm
+returns-in-Ok-clause-calm g c = λ none. calm_stays _ _ c.remove.result c.remove.ensures.plans none
+
+pub returns-in-Err-clause-calm : goal.returns-in-Err-clause-calm
+returns-in-Err-clause-calm g c = λ none. calm_stays _ _ c.remove.result c.remove.ensures.plans none
+
+pub returns-in-Err-clause-unfailed : goal.returns-in-Err-clause-unfailed
+returns-in-Err-clause-unfailed g c = λ none. never_told _ _ c.remove.result c.in-Err.fault c.refusal.result _ c.remove.ensures.plans c.in-Err.is c.refusal.ensures.failed refl none
