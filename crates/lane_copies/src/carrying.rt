@@ -1,4 +1,4 @@
-//! Files, carried in frames over a link that passes the gate before each chunk.
+//! Files, carried over a link that passes the gate before each chunk.
 
 ghost use Rattle.std.specs.Prelude.{◌≡◌, IfOk};
 ghost use Rattle.codec_frame.specs.Checking.{HasFooter};
@@ -13,7 +13,6 @@ use lane_sections::{Gate, Place};
 use link_model::{Link, LinkFault, MemLink};
 use nrt_base::{At, LineNo, NoMemory, NodeNo};
 use std::alloc::{AllocError, Global};
-use wire_link::WireLink;
 
 /// A link that passes the gate before each chunk, and is else the link that it wraps.
 #[derive(Drop)]
@@ -58,7 +57,7 @@ impl<'g, G: Gate, L: Link> Link for GateLink<'g, G, L> {
     }
 }
 
-/// Carries a file whole to a node, each chunk through the frame that a peer would read.
+/// Carries a file whole to a node.
 pub fn carry<G: Gate>(
     alloc: Global,
     gate: &G,
@@ -71,7 +70,7 @@ pub fn carry<G: Gate>(
     ensures { IfOk result (IsPartOf file.now.name file.now.source file.now.meta) }
 {
     let mut link = GateLink {
-        link: WireLink::new(alloc, MemLink::new(alloc), file.name),
+        link: MemLink::new(alloc),
         gate,
         line: at.line,
         node,
