@@ -1,9 +1,13 @@
 //! Files that are copied over links, and where a job clashes with what is held.
 
-ghost use Rattle.std.specs.Prelude.{◌≡◌, ◌≤◌, None, length, IfOk, IfSome};
+ghost use Rattle.std.specs.Prelude.{◌≡◌, ◌∷◌, [], None, IfOk};
+ghost use Rattle.std.specs.List.Sorted.{IsStrictlySortedBy};
+ghost use Rattle.std.specs.Ordering.{nat_cmp};
 ghost use Rattle.codec_frame.specs.Bytes.{AreBytes};
 ghost use Rattle.codec_frame.specs.Checking.{HasFooter};
 ghost use Rattle.copy_state.specs.States.{IsCopyState};
+
+mod takeovers;
 
 use super::*;
 use bytes::Bytes;
@@ -87,12 +91,13 @@ fn fits(bytes: &[u8])
     let _ = bytes.len();
 }
 
-fn letter() -> Option<FileName>
-    ensures { IfSome result (λ name. length name ≤ 46) }
+// The name of one letter.
+fn named(letter: u8) -> Result<FileName, Fail>
+    ensures { IfOk result (λ name. name ≡ letter ∷ []) }
 {
-    match file_name(b"a") {
-        Ok(name) => Some(name),
-        Err(_) => None,
+    match file_name(&[letter]) {
+        Ok(name) => Ok(name),
+        Err(_) => Err(Fail::new("a name")),
     }
 }
 
@@ -134,7 +139,7 @@ fn damage_of(answer: Result<Part, JobFault>) -> Option<(u64, u64)> {
 
 #[test]
 fn a_file_damaged_at_each_byte(rt: HostRuntime) -> Result<(), Fail> {
-    let name = letter().ok_or("a name")?;
+    let name = named(b'a')?;
     let file = framed(
         rt.alloc(),
         &[0, 0, 0, 1, 0, 0, 0, 0, 0, 0, 0, 3, 1, b'a', b'x'],
@@ -151,7 +156,7 @@ fn a_file_damaged_at_each_byte(rt: HostRuntime) -> Result<(), Fail> {
 
 #[test]
 fn a_long_file_comes_in_three_chunks(rt: HostRuntime) -> Result<(), Fail> {
-    let name = letter().ok_or("a name")?;
+    let name = named(b'a')?;
     let mut body = Vec::new(rt.alloc());
     body.resize(69_951, 0)?;
     let file = framed(rt.alloc(), body.as_slice())?;
@@ -172,9 +177,9 @@ fn a_long_file_comes_in_three_chunks(rt: HostRuntime) -> Result<(), Fail> {
     Ok(())
 }
 
-// A state of one file.
-fn state_of(alloc: Global, name: FileName, meta: FileMetaData) -> Result<CopyState, NoMemory>
-    requires { length name ≤ 46 }
+// A state of files that have these letters as names, and this metadata. The letters ascend.
+fn state_of(alloc: Global, letters: &[u8], meta: &FileMetaData) -> Result<CopyState, Fail>
+    requires { IsStrictlySortedBy nat_cmp letters.now }
     ensures { IfOk result IsCopyState }
 {
     let infos = Infos {
@@ -185,7 +190,11 @@ fn state_of(alloc: Global, name: FileName, meta: FileMetaData) -> Result<CopySta
     };
     let infos = encode(alloc, &infos)?;
     let mut files = List::new(alloc);
-    files.push((name, meta))?;
+    for letter in letters {
+        let name = named(*letter)?;
+        let own = meta.share(alloc)?;
+        files.push((name, own))?;
+    }
     Ok(CopyState {
         version: Version(1),
         generation: 0,
@@ -196,16 +205,15 @@ fn state_of(alloc: Global, name: FileName, meta: FileMetaData) -> Result<CopySta
     })
 }
 
-// A job of one file, where a file of that name is held.
+// A job of a state, where one file is held.
 fn begun(
     alloc: Global,
     name: FileName,
     ours: FileMetaData,
-    theirs: FileMetaData,
+    want: CopyState,
 ) -> Result<CopyJob, JobFault>
-    requires { length name ≤ 46 }
+    requires { IsCopyState want }
 {
-    let want = state_of(alloc, name, theirs)?;
     CopyJob::begin(alloc, 1, JobKind::Point, want, &[(name, ours)])
 }
 
@@ -220,18 +228,20 @@ fn clash_of(answer: Result<CopyJob, JobFault>) -> Option<(FileMetaData, FileMeta
 #[test]
 fn a_held_file_is_reused_or_clashes(rt: HostRuntime) -> Result<(), Fail> {
     let alloc = rt.alloc();
-    let name = letter().ok_or("a name")?;
+    let name = named(b'a')?;
     let meta = read_meta(alloc, framed(alloc, b"x")?.as_slice())
         .ok()
         .ok_or("metadata")?;
-    let job = begun(alloc, name, meta.share(alloc)?, meta.share(alloc)?)
+    let want = state_of(alloc, b"a", &meta)?;
+    let job = begun(alloc, name, meta.share(alloc)?, want)
         .ok()
         .ok_or("a job")?;
     assert_eq!(rt; (job.missing().len(), job.reused().len()), (0, 1));
     drop(job);
     let mut other = meta.share(alloc)?;
     other.checksum = 0;
-    let clash = clash_of(begun(alloc, name, meta, other)).ok_or("a clash")?;
+    let want = state_of(alloc, b"a", &other)?;
+    let clash = clash_of(begun(alloc, name, meta, want)).ok_or("a clash")?;
     assert!(rt; clash.0.checksum != 0 && clash.1.checksum == 0);
     Ok(())
 }

@@ -25,7 +25,7 @@ use Rattle.replica_opening.specs.Opened.{IsSettledOn}
 use Rattle.replica_opening.proofs.Clearings.{one_found}
 use Rattle.replica_opening.proofs.Settled.{restarted_settled}
 use Rattle.replica_state.specs.declared.parts.ReplicaParts.{ReplicaParts}
-use Rattle.recovery_laws.specs.Stops.{IsFoundAs, in_flight, IsStillInFlight, GoesOn, FindsCommit, OpensAt, StandsAt, StandsAgain, HasInfosAgain}
+use Rattle.recovery_laws.specs.Stops.{IsFoundAs, staged_commit, IsStillInFlight, CommitGoesOn, FindsCommit, OpensAt, StandsAt, StandsAgain, HasInfosAgain}
 
 -- ---- a crash
 
@@ -184,15 +184,15 @@ is_made false more = refl
 
 -- the calls of a commit lead on
 stage_step : (book : CommitBook) (s : Stage) → book.stage ≡ Some s → is_last_step (Some s) ≡ false → IsStillInFlight book (book_by book (Some s))
-stage_step book (Begun s) is more = record { last = refl; flight = sym (ap in_flight is); some = refl }
-stage_step book (Synced s) is more = record { last = refl; flight = sym (ap in_flight is); some = refl }
-stage_step book (Written s) is more = record { last = refl; flight = sym (ap in_flight is); some = refl }
-stage_step book (Pending s) is more = record { last = refl; flight = sym (ap in_flight is); some = refl }
-stage_step book (Named s) is more = record { last = refl; flight = sym (ap in_flight is); some = refl }
+stage_step book (Begun s) is more = record { last = refl; flight = sym (ap staged_commit is); some = refl }
+stage_step book (Synced s) is more = record { last = refl; flight = sym (ap staged_commit is); some = refl }
+stage_step book (Written s) is more = record { last = refl; flight = sym (ap staged_commit is); some = refl }
+stage_step book (Pending s) is more = record { last = refl; flight = sym (ap staged_commit is); some = refl }
+stage_step book (Named s) is more = record { last = refl; flight = sym (ap staged_commit is); some = refl }
 stage_step book (Renamed s) is more = absurd (true≢false more)
 
-stage_goes : (book : CommitBook) (s : Stage) → book.stage ≡ Some s → GoesOn book (book_by book (Some s))
-stage_goes book (Renamed s) is = inr (sym (ap in_flight is), refl)
+stage_goes : (book : CommitBook) (s : Stage) → book.stage ≡ Some s → CommitGoesOn book (book_by book (Some s))
+stage_goes book (Renamed s) is = inr (sym (ap staged_commit is), refl)
 stage_goes book (Begun s) is = inl (stage_step book (Begun s) is refl)
 stage_goes book (Synced s) is = inl (stage_step book (Synced s) is refl)
 stage_goes book (Written s) is = inl (stage_step book (Written s) is refl)
@@ -208,10 +208,10 @@ staged : (o : Option Stage) → IsSome o → IsStage o
 staged None some = absurd (true≢false (sym some))
 staged (Some s) some = record { stage = s; is = refl }
 
-pub step_goes : (old new : CommitBook) → IsSome old.stage → new ≡ book_after old → GoesOn old new
+pub step_goes : (old new : CommitBook) → IsSome old.stage → new ≡ book_after old → CommitGoesOn old new
 step_goes old new some after =
     let s = staged old.stage some in
-    subst (GoesOn old) (sym (after ∙ ap (book_by old) s.is)) (stage_goes old s.stage s.is)
+    subst (CommitGoesOn old) (sym (after ∙ ap (book_by old) s.is)) (stage_goes old s.stage s.is)
 
 pub step_more : (old new : CommitBook) → IsSome old.stage → new ≡ book_after old → is_last_step old.stage ≡ false → IsStillInFlight old new
 step_more old new some after more =
@@ -224,13 +224,13 @@ stays_in_flight old new some same = subst (IsStillInFlight old) (sym same) (reco
 pub still_then : (a b c : CommitBook) → IsStillInFlight a b → IsStillInFlight b c → IsStillInFlight a c
 still_then a b c one other = record { last = other.last ∙ one.last; flight = other.flight ∙ one.flight; some = other.some }
 
-pub goes_then : (a b c : CommitBook) → IsStillInFlight a b → GoesOn b c → GoesOn a c
+pub goes_then : (a b c : CommitBook) → IsStillInFlight a b → CommitGoesOn b c → CommitGoesOn a c
 goes_then a b c one (inl other) = inl (still_then a b c one other)
 goes_then a b c one (inr made) = inr (made.0 ∙ one.flight, made.1)
 
 -- ---- opened behind a stop
 
-shown_is : (o : Option Stage) (P : Commit → Type 0) → IsSomeAnd (shown_by o) P → IsSomeAnd (in_flight o) P
+shown_is : (o : Option Stage) (P : Commit → Type 0) → IsSomeAnd (shown_by o) P → IsSomeAnd (staged_commit o) P
 shown_is None P has = absurd has
 shown_is (Some (Named s)) P has = has
 shown_is (Some (Renamed s)) P has = has
@@ -243,8 +243,8 @@ each_some : (o : Option Commit) (P Q : Commit → Type 0) → ((c : Commit) → 
 each_some None P Q more has = absurd has
 each_some (Some c) P Q more has = more c has
 
-module _ {D : Type 0} (cells : D → Cells) (was stopped : ReplicaParts D) (in_one : IsSome was.commits.stage) (goes : GoesOn was.commits stopped.commits) where
-  made_some : (o : Option Stage) → IsSome o → in_flight o ≡ None → ⊥
+module _ {D : Type 0} (cells : D → Cells) (was stopped : ReplicaParts D) (in_one : IsSome was.commits.stage) (goes : CommitGoesOn was.commits stopped.commits) where
+  made_some : (o : Option Stage) → IsSome o → staged_commit o ≡ None → ⊥
   made_some None some none = true≢false (sym some)
   made_some (Some s) some none = cc
 
@@ -254,13 +254,13 @@ module _ {D : Type 0} (cells : D → Cells) (was stopped : ReplicaParts D) (in_o
       HasInfos : Commit → Type 0
       HasInfos c = now.infos ≡ c.infos
 
-      by : GoesOn was.commits stopped.commits → StandsAgain cells stopped now → HasInfosAgain was now
+      by : CommitGoesOn was.commits stopped.commits → StandsAgain cells stopped now → HasInfosAgain was now
       by (inl still) (inl none) = inl (sym still.last ∙ none.0, none.1)
       by (inl still) (inr (inl last)) =
           inr (inl (subst (λ (o : Option Commit). IsSomeAnd o HasInfos) still.last (each_some stopped.commits.last (StandsAt cells stopped now) HasInfos (λ c at. at.infos) last)))
       by (inl still) (inr (inr flight)) =
           inr (inr (subst (λ (o : Option Commit). IsSomeAnd o HasInfos) still.flight
-          (each_some (in_flight stopped.commits.stage) (StandsAt cells stopped now) HasInfos (λ c at. at.infos) (shown_is stopped.commits.stage (StandsAt cells stopped now) flight))))
+          (each_some (staged_commit stopped.commits.stage) (StandsAt cells stopped now) HasInfos (λ c at. at.infos) (shown_is stopped.commits.stage (StandsAt cells stopped now) flight))))
       by (inr made) (inl none) = absurd (made_some was.commits.stage in_one (sym made.0 ∙ none.0))
       by (inr made) (inr (inl last)) =
           inr (inr (subst (λ (o : Option Commit). IsSomeAnd o HasInfos) made.0 (each_some stopped.commits.last (StandsAt cells stopped now) HasInfos (λ c at. at.infos) last)))

@@ -18,18 +18,18 @@ abbrev pub IsFoundAs : ℕ × Infos → Commit → Type 0
 IsFoundAs found c = (found.0 ≡ c.number) × (found.1 ≡ c.infos)
 
 -- the commit in flight
-abbrev pub in_flight : Option Stage → Option Commit
-in_flight stage = option_map commit_of stage
+abbrev pub staged_commit : Option Stage → Option Commit
+staged_commit stage = option_map commit_of stage
 
 -- the commit in flight is still in flight
 pub record IsStillInFlight (old new : CommitBook) : Type 0 where
   pub last : new.last ≡ old.last
-  pub flight : in_flight new.stage ≡ in_flight old.stage
+  pub flight : staged_commit new.stage ≡ staged_commit old.stage
   pub some : IsSome new.stage
 
 -- calls were made for the commit in flight: it is still in flight, or it is made, and is the last one
-abbrev pub GoesOn : CommitBook → CommitBook → Type 0
-GoesOn old new = IsStillInFlight old new ⊎ ((new.last ≡ in_flight old.stage) × (new.stage ≡ None))
+abbrev pub CommitGoesOn : CommitBook → CommitBook → Type 0
+CommitGoesOn old new = IsStillInFlight old new ⊎ ((new.last ≡ staged_commit old.stage) × (new.stage ≡ None))
 
 module _ {D : Type 0} where
   -- what is found of a node's commits: its last one, or the one in flight, or nothing where none was made
@@ -59,4 +59,4 @@ module _ {D : Type 0} where
   abbrev pub HasInfosAgain : ReplicaParts D → ReplicaParts D → Type 0
   HasInfosAgain was now =
       ((was.commits.last ≡ None) × (now.infos ≡ opening_infos))
-      ⊎ (IsSomeAnd was.commits.last (λ c. now.infos ≡ c.infos) ⊎ IsSomeAnd (in_flight was.commits.stage) (λ c. now.infos ≡ c.infos))
+      ⊎ (IsSomeAnd was.commits.last (λ c. now.infos ≡ c.infos) ⊎ IsSomeAnd (staged_commit was.commits.stage) (λ c. now.infos ≡ c.infos))

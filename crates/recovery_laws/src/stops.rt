@@ -5,7 +5,7 @@ ghost use Rattle.disk_model.specs.Disk.{HasCrashed};
 ghost use Rattle.commit_steps.specs.Recovery.{IsCutOff};
 ghost use Rattle.replica_opening.specs.Opened.{IsSettledOn};
 ghost use Rattle.replica_state.specs.Replica.{AreStanding};
-ghost use Rattle.recovery_laws.specs.Stops.{FindsCommit, GoesOn, IsStillInFlight, OpensAt, StandsAgain, HasInfosAgain};
+ghost use Rattle.recovery_laws.specs.Stops.{FindsCommit, CommitGoesOn, IsStillInFlight, OpensAt, StandsAgain, HasInfosAgain};
 
 use commit_steps::{RecoverFault, recover};
 use disk_model::FaultDir;
@@ -77,7 +77,7 @@ fn goes_on<D: FaultDir + Drop>(alloc: Global, replica: &mut Replica<D>) -> bool
     requires standing { AreStanding D.cells replica.old }
     requires in_flight { IsSome replica.old.commits.stage }
     ensures standing { AreStanding D.cells replica.new }
-    ensures goes { GoesOn replica.old.commits replica.new.commits }
+    ensures goes { CommitGoesOn replica.old.commits replica.new.commits }
     ensures more { result ≡ true → IsStillInFlight replica.old.commits replica.new.commits }
 {
     match replica.commit_step(alloc) {
@@ -91,7 +91,7 @@ fn carry<D: FaultDir + Drop>(alloc: Global, replica: &mut Replica<D>)
     requires standing { AreStanding D.cells replica.old }
     requires in_flight { IsSome replica.old.commits.stage }
     ensures standing { AreStanding D.cells replica.new }
-    ensures goes { GoesOn replica.old.commits replica.new.commits }
+    ensures goes { CommitGoesOn replica.old.commits replica.new.commits }
 {
     for _ in 0..6 {
         if !goes_on(alloc, replica) {

@@ -2,7 +2,6 @@
 use Rattle.std.proofs.Common.{◌≡◌, ◌≤◌, ◌+◌, ◌||◌, ◌&&◌, ◌==◌, ℕ, Bool, true, false, true≢false, not, List, [], ◌∷◌, ◌++◌, reverse, Option, Some, None, if◌then◌else◌, refl, sym, ap, subst, ◌∙◌, arith, inl, inr}
 use Rattle.std.specs.Prelude.{◌⊎◌, nat_le}
 use Rattle.std.specs.List.{list_all, flat_map}
-use Rattle.std.proofs.Math.Bool.{or-true}
 use Rattle.std.proofs.lemmas.Bool.{false≢true, and_from, and_parts, or_right, eq-eqb}
 use Rattle.std.proofs.lemmas.Bool.Decides.{nat_tests}
 use Rattle.std.proofs.lemmas.List.Folds.{list_all-append}
@@ -352,9 +351,6 @@ line_at p (line ∷ lines) at command all is =
 
 -- ---- the order of lanes
 
-answered_more : (a : At) (e : Entry) (past : Past) → is_answered a past ≡ true → is_answered a (e ∷ past) ≡ true
-answered_more a e past h = or_right (is_reply e.event && same_at e.at a) (is_answered a past) h
-
 earlier_more : (lines : List Line) (at : At) (e : Entry) (past : Past) → earlier_answered lines at past ≡ true → earlier_answered lines at (e ∷ past) ≡ true
 earlier_more [] at e past h = refl
 earlier_more (line ∷ lines) at e past h = by (earlier_more lines at e past) (same_at line.at at) h
@@ -365,16 +361,13 @@ earlier_more (line ∷ lines) at e past h = by (earlier_more lines at e past) (s
     by more true h = refl
     by more false h =
         let both = and_parts (is_answered line.at past) (earlier_answered lines at past) h in
-        and_from (is_answered line.at (e ∷ past)) (earlier_answered lines at (e ∷ past)) (answered_more line.at e past both.0) (more both.1)
-
-or_so : (b c : Bool) → c ≡ true → (b || c) ≡ true
-or_so b c h = ap (λ (x : Bool). b || x) h ∙ or-true b
+        and_from (is_answered line.at (e ∷ past)) (earlier_answered lines at (e ∷ past)) (or_right (is_reply e.event && same_at e.at line.at) (is_answered line.at past) both.0) (more both.1)
 
 order_of : (lines : List Line) (past : Past) (at : At) (command : LineCommand) (x : Event) → FitsTurn lines past at (Some command) x
     → (is_merge_fault (Some command) x || earlier_answered lines at past) ≡ true
 order_of lines past at (Merge factor) (Met n kind) h = refl
-order_of lines past at command (Met n kind) h = or_so (is_merge_fault (Some command) (Met n kind)) (earlier_answered lines at past) h.1
-order_of lines past at command x h = or_so (is_merge_fault (Some command) x) (earlier_answered lines at past) h.1
+order_of lines past at command (Met n kind) h = or_right (is_merge_fault (Some command) (Met n kind)) (earlier_answered lines at past) h.1
+order_of lines past at command x h = or_right (is_merge_fault (Some command) x) (earlier_answered lines at past) h.1
 
 turn_order : (lines : List Line) (past : Past) (at : At) (command : Option LineCommand) (x : Event) → FitsTurn lines past at command x
     → (is_merge_fault command x || earlier_answered lines at past) ≡ true
@@ -405,7 +398,7 @@ keeps_lanes script (e ∷ past) serves =
         → (is_merge_fault (command_at (lines_of_lane e.at.lane.0 script) e.at) e.event || earlier_answered (lines_of_lane e.at.lane.0 script) e.at past) ≡ true
     order [] rest fits = turn_order (lines_of_lane e.at.lane.0 script) past e.at (command_at (lines_of_lane e.at.lane.0 script) e.at) e.event fits
     order (op ∷ ops) rest fits =
-        or_so (is_merge_fault (command_at (lines_of_lane e.at.lane.0 script) e.at) e.event) (earlier_answered (lines_of_lane e.at.lane.0 script) e.at past)
+        or_right (is_merge_fault (command_at (lines_of_lane e.at.lane.0 script) e.at) e.event) (earlier_answered (lines_of_lane e.at.lane.0 script) e.at past)
         (replay_order script past e.at e.event op rest fits (told op past e.at (command_at (lines_of_lane e.at.lane.0 script) e.at) e.event fits).2)
 
 -- ---- all together

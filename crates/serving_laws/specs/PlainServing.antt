@@ -74,8 +74,8 @@ IsRefusedHere command at past cause =
     (refusal command at.lane.0 past ≡ Some cause) ⊎ ((refusal command at.lane.0 past ≡ None) × (is_left_open command at past cause ≡ true))
 
 -- here no cause to refuse the line holds
-abbrev pub IsFree : LineCommand → At → Past → Type 0
-IsFree command at past = refusal command at.lane.0 past ≡ None
+abbrev pub IsUnrefused : LineCommand → At → Past → Type 0
+IsUnrefused command at past = refusal command at.lane.0 past ≡ None
 
 -- the line has no entry yet but faults
 abbrev pub IsUntouched : At → Past → Type 0
@@ -89,7 +89,7 @@ if_own false own other = other
 -- The entry of its line starts it, where nothing refuses it; or it is a fault, and the line has started (`still`).
 abbrev pub StartsBy : LineCommand → At → Past → Event → Type 0 → Type 0
 StartsBy command at past (Met n kind) still = still
-StartsBy command at past e still = Starts command e × IsFree command at past × IsUntouched at past
+StartsBy command at past e still = Starts command e × IsUnrefused command at past × IsUntouched at past
 
 -- a line has started, and met faults at most since
 abbrev pub HasStarted : LineCommand → At → Past → Type 0
@@ -102,7 +102,7 @@ abbrev pub WorksBy : LineCommand → At → Past → Event → Type 0 → Type 0
 WorksBy command at past (Met n kind) started still = still
 WorksBy (Copy n) at past (Switched m v) started still = (m ≡ n) × started
 WorksBy Settle at past (Switched m v) started still = still
-WorksBy command at past e started still = Starts command e × IsFree command at past × IsUntouched at past
+WorksBy command at past e started still = Starts command e × IsUnrefused command at past × IsUntouched at past
 
 -- a line has started, and switched replicas and met faults at most since
 abbrev pub IsAtWork : LineCommand → At → Past → Type 0
@@ -117,7 +117,7 @@ EndsBy log command at past (Refused cause) work still =
     (IsRefusedHere command at past cause × IsUntouched at past) ⊎ ((is_late_cause command cause ≡ true) × work)
 EndsBy log (Merge factor) at past (Met n kind) work still = still
 EndsBy log (Promote n force) at past (Accepted seq op) work still = (log ≡ true) × still
-EndsBy log command at past e work still = (RepliesAtOnce command past e × IsFree command at past × IsUntouched at past) ⊎ (RepliesLate command e × work)
+EndsBy log command at past e work still = (RepliesAtOnce command past e × IsUnrefused command at past × IsUntouched at past) ⊎ (RepliesLate command e × work)
 
 -- a line has the entries that it asks for, with one reply
 abbrev pub HasEnded : Bool → LineCommand → At → Past → Type 0
