@@ -1,4 +1,3 @@
-use Rattle.std.proofs.Common.{◌≡◌}
 use Rattle.replica_state.specs.Replica.{AreStanding}
 use Rattle.recovery_laws.specs.Stops.{IsStillInFlight}
 use Rattle.recovery_laws.proofs.stops.carry.Given as goal

@@ -1,4 +1,4 @@
-use Rattle.std.proofs.Common.{refl, sym, ap, subst}
+use Rattle.std.proofs.Common.{subst}
 use Rattle.disk_model.specs.Disk.{HasCrashed}
 use Rattle.recovery_laws.proofs.StopLaws.{finds_commit, only_cut_off}
 use Rattle.recovery_laws.proofs.stops.recovers.Goals as goal
