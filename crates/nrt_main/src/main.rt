@@ -96,6 +96,7 @@ fn explain_words(rt: &HostRuntime, texts: &[String]) -> io::Result<()> {
 }
 
 /// What a run leaves for messages: the words, what was read, and whether the other end of standard output was closed.
+#[derive(Clone, Copy)]
 struct Seen<'a> {
     texts: &'a [String],
     input: &'a [u8],
@@ -118,6 +119,14 @@ fn explain(rt: &HostRuntime, status: Status, seen: &Seen<'_>) -> io::Result<()> 
     }
 }
 
+/// A help or a version that was not written. Who reads the output may leave without a word.
+fn unwritten(rt: &HostRuntime, error: &io::Error) -> Status {
+    if error.kind() != io::ErrorKind::BrokenPipe {
+        let _ = eprintln!(rt; "nrt: {}", Status::WriteFault);
+    }
+    Status::WriteFault
+}
+
 /// Writes the help or the version, where the only word asks for it.
 fn tell(rt: &HostRuntime, texts: &[String]) -> Option<Status> {
     let [_, word] = texts else {
@@ -127,7 +136,7 @@ fn tell(rt: &HostRuntime, texts: &[String]) -> Option<Status> {
         Ok(None) => None,
         Ok(Some(text)) => match print!(rt; "{}", text) {
             Ok(()) => Some(Status::Done),
-            Err(_) => Some(Status::WriteFault),
+            Err(error) => Some(unwritten(rt, &error)),
         },
         Err(_) => Some(Status::Memory),
     }
