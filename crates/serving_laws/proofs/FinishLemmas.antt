@@ -80,14 +80,11 @@ fits_promotion n force lines at past (op ∷ ops) x h = absurd h
 never_started : (script : Script) (at : At) (n : NodeNo) (force : Force) → command_at (lines_of_lane at.lane.0 script) at ≡ Some (Promote n force) → (past : Past) → ServesLanes script past
     → start_entry at past ≡ None
 never_started script at n force known [] serves = refl
-never_started script at n force known (e ∷ past) serves = by (same_at e.at at) refl
+never_started script at n force known (e ∷ past) serves = by (never_started script at n force known past serves.1) (same_at e.at at) refl
   where
-    before : start_entry at past ≡ None
-    before = never_started script at n force known past serves.1
-
-    by : (b : Bool) → same_at e.at at ≡ b → (if is_start e.event && b then Some e.event else start_entry at past) ≡ None
-    by false other = skipped (is_start e.event) (Some e.event) (start_entry at past) ∙ before
-    by true here =
+    by : start_entry at past ≡ None → (b : Bool) → same_at e.at at ≡ b → (if is_start e.event && b then Some e.event else start_entry at past) ≡ None
+    by before false other = skipped (is_start e.event) (Some e.event) (start_entry at past) ∙ before
+    by before true here =
         let is : e.at ≡ at = same_at_is e.at at here in
         let fits : Fits (due script.log past) (lines_of_lane at.lane.0 script) past at (command_at (lines_of_lane at.lane.0 script) at) e.event =
         subst (λ (a : At). Fits (due script.log past) (lines_of_lane a.lane.0 script) past a (command_at (lines_of_lane a.lane.0 script) a) e.event) is serves.0 in
@@ -291,13 +288,10 @@ reply_elsewhere false old h = h
 -- a line that has neither a start entry nor a reply has no entry but faults
 no_entry : (script : Script) (at : At) (past : Past) → ServesLanes script past → start_entry at past ≡ None → is_answered at past ≡ false → last_of_line at past ≡ None
 no_entry script at [] serves none waits = refl
-no_entry script at (e ∷ past) serves none waits = by (same_at e.at at) refl none waits
+no_entry script at (e ∷ past) serves none waits = by (no_entry script at past serves.1) (same_at e.at at) refl none waits
   where
-    rest : start_entry at past ≡ None → is_answered at past ≡ false → last_of_line at past ≡ None
-    rest = no_entry script at past serves.1
-
     event_by : (x : Event) → (same_at e.at at ≡ true) → e.event ≡ x → is_start x ≡ false → is_reply x ≡ false → last_of_line at past ≡ None
-        → elim x [ Met n kind ↦ last_of_line at past | y ↦ Some y ] ≡ None
+        → ◌≡◌ {A = Option Event} (elim x [ Met n kind ↦ last_of_line at past | y ↦ Some y ]) None
     event_by (Met n kind) here is starts replies none = none
     event_by (Switched n v) here is starts replies none =
         let fits : Fits (due script.log past) (lines_of_lane at.lane.0 script) past at (command_at (lines_of_lane at.lane.0 script) at) e.event =
@@ -306,13 +300,14 @@ no_entry script at (e ∷ past) serves none waits = by (same_at e.at at) refl no
         (subst (Fits (due script.log past) (lines_of_lane at.lane.0 script) past at (command_at (lines_of_lane at.lane.0 script) at)) is fits))
     event_by x here is starts replies none = absurd (false≢true (acts x starts replies))
 
-    by : (b : Bool) → same_at e.at at ≡ b → (if is_start e.event && b then Some e.event else start_entry at past) ≡ None → (is_reply e.event && b || is_answered at past) ≡ false
+    by : (start_entry at past ≡ None → is_answered at past ≡ false → last_of_line at past ≡ None) → (b : Bool) → same_at e.at at ≡ b
+        → (if is_start e.event && b then Some e.event else start_entry at past) ≡ None → (is_reply e.event && b || is_answered at past) ≡ false
         → (if b then elim e.event [ Met n kind ↦ last_of_line at past | y ↦ Some y ] else last_of_line at past) ≡ None
-    by true here none waits =
+    by rest true here none waits =
         let starts = start_parts (is_start e.event) e.event (start_entry at past) none in
         let replies = reply_parts (is_reply e.event) (is_answered at past) waits in
         event_by e.event here refl starts.0 replies.0 (rest starts.1 replies.1)
-    by false other none waits =
+    by rest false other none waits =
         rest (sym (skipped (is_start e.event) (Some e.event) (start_entry at past)) ∙ none) (reply_elsewhere (is_reply e.event) (is_answered at past) waits)
 
 abbrev is_faulty : Option Cause → Bool
