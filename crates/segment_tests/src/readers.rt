@@ -61,7 +61,7 @@ fn fronts_and_altered_files(rt: HostRuntime) -> Result<(), Fail> {
         (Kind::Post, &POST),
         (Kind::Info, &INFO),
         (Kind::Infos, &INFOS),
-        (Kind::Live, &live),
+        (Kind::Live, live.as_slice()),
     ];
     for (kind, file) in files {
         assert!(rt; is_read(alloc, kind, file)?);
