@@ -7,7 +7,9 @@ use Rattle.std.proofs.lemmas.List.{length-append}
 use Rattle.nrt_base.specs.Causes.{Rose}
 use Rattle.wire_frames.specs.declared.message.WireFault.{WireFault}
 use Rattle.wire_frames.specs.Streams.{AreMessagesOf, IsStreamFault}
-use Rattle.wire_frames.specs.Runs.{GaveMore, GaveBadStream}
+use Rattle.wire_frames.specs.declared.running.FramesEnd.{FramesEnd}
+use Rattle.wire_frames.specs.declared.running.FramesEnd.TheVariants.{BadStream as EndsBad}
+use Rattle.wire_frames.specs.Runs.{GaveMore, GaveBadStream, SaysFrames}
 use Rattle.wire_frames.proofs.StreamLaws.{are_messages, fault_stays, never_faulty, nothing_unfinished, one_reading}
 use Rattle.index_check.specs.Images.{NamedFile, IsImageOf, IsNoImage}
 use Rattle.nrt_main.specs.declared.status.Status.{Status}
@@ -132,7 +134,7 @@ module _ (left after : Option (List ℕ)) (o : OffersMessages left) where
   stream_not_more more = absurd (not_more left after o.bytes o.offered (more_taken left after more))
 
   -- it is not bad
-  pub stream_not_bad : (k : ℕ) → GaveBadStream left after k → IsDoneOrMemory (BadStream k)
+  stream_not_bad : (k : ℕ) → GaveBadStream left after k → IsDoneOrMemory (BadStream k)
   stream_not_bad k (inl bad) =
       let fault : WireFault = bad.0 in
       let gave = bad.1 in
@@ -147,6 +149,9 @@ module _ (left after : Option (List ℕ)) (o : OffersMessages left) where
       let size : length gave.rest ≡ 0 = ap length none in
       let some = gave.some in
       absurd (omega (arith, size, some))
+
+  pub stream_ends_well : (end : FramesEnd) (k : ℕ) → SaysFrames left after end → end ≡ EndsBad k → IsDoneOrMemory (BadStream k)
+  stream_ends_well end k said is = stream_not_bad k (subst (SaysFrames left after) is said)
 
 -- ---- an image
 

@@ -174,7 +174,7 @@ fn run_source<R: Threads + Wait + Sync, S: Source, K: Sink, G: Gate + Sync>(
 }
 
 /// Reads a stream of frames from the source, and writes the lines of its messages to the sink.
-#[tactic(auto, using(crate::proofs::FrameAnswers::text_answer, crate::proofs::FrameAnswers::bad_answer, crate::proofs::Complete::all_done, crate::proofs::Complete::out_of_memory, crate::proofs::Complete::not_unread, crate::proofs::Complete::not_unwritten, crate::proofs::Complete::stream_not_more, crate::proofs::Complete::stream_not_bad))]
+#[tactic(auto, using(crate::proofs::FrameAnswers::text_answer, crate::proofs::FrameAnswers::bad_answer, crate::proofs::Complete::all_done, crate::proofs::Complete::out_of_memory, crate::proofs::Complete::not_unread, crate::proofs::Complete::not_unwritten, crate::proofs::Complete::stream_not_more))]
 fn frames_source<S: Source, K: Sink>(alloc: Global, source: &mut S, sink: &mut K) -> Status
     requires reads { S.fault_count source.old < 2 ^ 64 - 1 }
     requires writes { K.fault_count sink.old < 2 ^ 64 - 1 }
