@@ -24,6 +24,8 @@ pub mod PointStands
 pub mod Points
 pub mod Reigning
 mod ReplicaLists
+pub mod RestKept
 pub mod Rows
+pub mod SizesTold
 pub mod Turning
 pub mod Wider

@@ -16,3 +16,6 @@ note_without-requires-clause-line g c = fresh_start _ c.args.at c.requires.fresh
 pub note_without-requires-clause-node : goal.note_without-requires-clause-node
 note_without-requires-clause-node g c =
     close_node _ _ c.args.at c.args.t _ _ c.in-Some.opening c.book-in-Some.ensures.nodes c.book-in-Some.ensures.log c.is_legal.ensures.legal (ticket_told _ _ _ _ c.ticket.result _ c.book.ensures.log c.ticket.ensures.some c.in-Some.is)
+
+pub note_without-requires-clause-apart : goal.note_without-requires-clause-apart
+note_without-requires-clause-apart g c = λ m other. other
