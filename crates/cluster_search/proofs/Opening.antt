@@ -1,7 +1,7 @@
 -- What a node shows after a ticket of it was opened, for a lane or for a search.
-use Rattle.std.proofs.Common.{◌≡◌, ◌≢◌, ◌==◌, ◌&&◌, ℕ, Bool, true, false, true≢false, List, [], ◌∷◌, ◌++◌, Some, refl, ap, ◌∙◌, sym, subst, arith, if◌then◌else◌}
+use Rattle.std.proofs.Common.{◌≡◌, ◌≢◌, ◌==◌, ◌&&◌, ℕ, Bool, true, false, true≢false, List, [], ◌∷◌, ◌++◌, Some, refl, ap, ◌∙◌, sym, subst, if◌then◌else◌}
 use Rattle.std.specs.Prelude.{IfSome, is_some, IsSome, ◌||◌}
-use Rattle.std.proofs.lemmas.Bool.Decides.{nat_tests}
+use Rattle.std.proofs.lemmas.Bool.{eq-eqb}
 use Rattle.std.proofs.Math.Bool.{or-true}
 use Rattle.nrt_base.specs.declared.numbers.At.{At}
 use Rattle.nrt_base.specs.declared.numbers.NodeNo.{NodeNo}
@@ -45,7 +45,7 @@ SearchesAfter past now n key v = (a : At) (w : ℕ) → IsSearching now a n w �
 -- what was opened is out
 out_new : (past : Past) (at : At) (n : NodeNo) (t : TicketNo) (v : Version) (k : HeldKey) → same_key (key_by at t) k ≡ true → is_ticket_out n.0 k (record { at = at; event = Opened n t v } ∷ past) ≡ true
 out_new past at n t v k same =
-    let here : (n.0 == n.0) ≡ true = grind (arith, nat_tests) in
+    let here : (n.0 == n.0) ≡ true = eq-eqb n.0 n.0 refl in
     ap (λ (b : Bool). (b && same_key (key_by at t) k) || is_ticket_out n.0 k past) here ∙ ap (λ (b : Bool). b || is_ticket_out n.0 k past) same
 
 -- and what was out still is
@@ -59,7 +59,7 @@ module _ {D : Type 0} (cells : D → Cells) where
       → ((k : HeldKey) → held_number rows k ≡ (if same_key key k then Some number else held_number held k))
       → TicketsAfter (printed log) (printed (shown at (Opened n t v) ∷ log)) n.0 key v.0 → SearchesAfter (printed log) (printed (shown at (Opened n t v) ∷ log)) n.0 key v.0
       → IsPointAt (printed log) (version_of n.0 (printed log)) s.point → HoldsTickets (printed log) n.0 s.tickets held → HoldsTickets (printed (shown at (Opened n t v) ∷ log)) n.0 after rows
-  opened_on size log at n t v key s after held rows number for legal keeps version fresh more holds opened searched point was =
+  opened_on size log at n t v key s after held rows number kind legal keeps version fresh more holds opened searched point was =
       holds_more (printed log) (printed (shown at (Opened n t v) ∷ log)) n.0 number v.0 key s.point s.tickets after held rows fresh more holds
       (λ w segs stands. stands_more size (printed log) (record { at = at; event = Opened n t v }) w segs (keeps, legal) stands)
       (record {
@@ -67,7 +67,7 @@ module _ {D : Type 0} (cells : D → Cells) where
         stands = stands_more size (printed log) (record { at = at; event = Opened n t v }) v.0 s.point.readers (keeps, legal)
             (subst (λ (k : ℕ). StandForVersion (printed log) k s.point.readers) (sym version) point.stands);
       })
-      (λ k same. out_new (printed log) at n t v k (ap (λ (l : HeldKey). same_key l k) for ∙ same)) (λ k had. out_old (printed log) at n t v k had)
+      (λ k same. out_new (printed log) at n t v k (ap (λ (l : HeldKey). same_key l k) kind ∙ same)) (λ k had. out_old (printed log) at n t v k had)
       opened searched was
 
   opened_tickets : (size : ℕ) (log : Log) (at : At) (n : NodeNo) (t : TicketNo) (v : Version) (key : HeldKey) (x : Node D) (after : List (Open Shown)) (held rows : List HeldTicket) (number : ℕ)
@@ -76,11 +76,11 @@ module _ {D : Type 0} (cells : D → Cells) where
       → ((k : HeldKey) → held_number rows k ≡ (if same_key key k then Some number else held_number held k))
       → TicketsAfter (printed log) (printed (shown at (Opened n t v) ∷ log)) n.0 key v.0 → SearchesAfter (printed log) (printed (shown at (Opened n t v) ∷ log)) n.0 key v.0
       → NodeShows cells log n.0 x → HoldsTickets (printed log) n.0 (tickets_of x) held → HoldsTickets (printed (shown at (Opened n t v) ∷ log)) n.0 after rows
-  opened_tickets size log at n t v key (Primary p) after held rows number for legal keeps version fresh more holds opened searched shows was =
-      opened_on size log at n t v key p.searchers after held rows number for legal keeps version fresh more holds opened searched shows.point was
-  opened_tickets size log at n t v key (Replica r) after held rows number for legal keeps version fresh more holds opened searched shows was =
-      opened_on size log at n t v key r.searchers after held rows number for legal keeps version fresh more holds opened searched shows.point was
-  opened_tickets size log at n t v key (Down d) after held rows number for legal keeps version fresh more holds opened searched shows was =
+  opened_tickets size log at n t v key (Primary p) after held rows number kind legal keeps version fresh more holds opened searched shows was =
+      opened_on size log at n t v key p.searchers after held rows number kind legal keeps version fresh more holds opened searched shows.point was
+  opened_tickets size log at n t v key (Replica r) after held rows number kind legal keeps version fresh more holds opened searched shows was =
+      opened_on size log at n t v key r.searchers after held rows number kind legal keeps version fresh more holds opened searched shows.point was
+  opened_tickets size log at n t v key (Down d) after held rows number kind legal keeps version fresh more holds opened searched shows was =
       absurd (true≢false (sym keeps.running ∙ shows.down))
 
   pub opened_place : (size : ℕ) (log : Log) (at : At) (n : NodeNo) (t : TicketNo) (v : Version) (key : HeldKey) (old new : NodePlace D)
@@ -88,10 +88,10 @@ module _ {D : Type 0} (cells : D → Cells) where
       → KeepsNode cells old.node new.node → HoldsMore key old new
       → TicketsAfter (printed log) (printed (shown at (Opened n t v) ∷ log)) n.0 key v.0 → SearchesAfter (printed log) (printed (shown at (Opened n t v) ∷ log)) n.0 key v.0
       → PlaceShows cells log n.0 old → PlaceShows cells (shown at (Opened n t v) ∷ log) n.0 new
-  opened_place size log at n t v key old new for legal turns keeps line version kept more opened searched was = record {
+  opened_place size log at n t v key old new kind legal turns keeps line version kept more opened searched was = record {
     node_shows = node_kept cells (shown at (Opened n t v) ∷ log) n.0 old.node new.node kept
         (node_same cells log (shown at (Opened n t v) ∷ log) n.0 old.node (same size n.0 (printed log) at (Opened n t v) legal turns keeps (λ _. not_flying size (printed log) at legal turns line) refl) (λ a h there. there) was.node_shows);
-    tickets = opened_tickets size log at n t v key old.node (tickets_of new.node) old.held.items new.held.items more.number for legal keeps version more.opens.fresh more.opens.tickets more.rows opened searched was.node_shows was.tickets;
+    tickets = opened_tickets size log at n t v key old.node (tickets_of new.node) old.held.items new.held.items more.number kind legal keeps version more.opens.fresh more.opens.tickets more.rows opened searched was.node_shows was.tickets;
   }
 
   -- a running node has searchers

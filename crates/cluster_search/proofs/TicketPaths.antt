@@ -79,11 +79,11 @@ module _ {D : Type 0} (cells : D → Cells) where
       → IsFresh at (printed b0.log) → KeepsRule r.nodes (printed r.log) at (Opened n t v) → key_by at t ≡ key
       → TicketsAfter (printed r.log) (printed (shown at (Opened n t v) ∷ r.log)) n.0 key v.0 → SearchesAfter (printed r.log) (printed (shown at (Opened n t v) ∷ r.log)) n.0 key v.0
       → PutsBack cells old mid new n.0 y → place_of old n.0 ≡ Some x → KeepsNode cells x.node y.node → HoldsMore key x y → Shows cells b2.log b2.nodes new
-  opened_path r ended b0 b1 b2 old mid new at n t v key x y view running shows e1 n1 e2 n2 legal turns fresh keeps for opened searched put there same more =
+  opened_path r ended b0 b1 b2 old mid new at n t v key x y view running shows e1 n1 e2 n2 legal turns fresh keeps kind opened searched put there same more =
       let line = fresh_line (printed r.log) at (past_has (IsFresh at) r ended b0 view fresh) in
       moved_at cells r ended b0 b1 b2 old mid new at (Opened n t v) n.0 y x view running shows e1 n1 e2 n2 legal turns keeps
       (λ m apart here. line) (λ m apart. refl) (λ m apart. apart) put keeps.node there
-      (λ all order was. opened_place cells r.nodes r.log at n t v key x y for all order keeps line keeps.searched same more opened searched was)
+      (λ all order was. opened_place cells r.nodes r.log at n t v key x y kind all order keeps line keeps.searched same more opened searched was)
 
   pub ticket_path : (r : Run) (ended : Bool) (b0 b1 b2 : Sheet) (old mid new : List (Option (NodePlace D))) (at : At) (n : NodeNo) (t : TicketNo) (v : Version) (x y : NodePlace D)
       → {left : Rest} → record { ended = ended; nodes = b0.nodes; log = b0.log; rest = left } ≡ r → r.ended ≡ false → (ended ≡ false → Shows cells b0.log b0.nodes old)
