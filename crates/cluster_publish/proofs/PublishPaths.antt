@@ -174,7 +174,10 @@ module _ {D : Type 0} (cells : D → Cells) where
 
       -- which are as many as there may be
       pub told_full : left.sizes ≡ sizes_in places → primary_of (printed r.log) ≡ Some n → AreTooMany p.waiting p.infos p.segs → IsFull r
-      told_full told primary many = let count = told_sizes told primary in omega (arith, count, many.2)
+      told_full told primary many =
+          let count = told_sizes told primary in
+          let most : 256 ≤ length p.segs = many.2 in
+          let all : 256 ≤ length r.rest.sizes = omega (arith, count, most) in all
 
       -- or a publish that draws a number has room for its segment
       pub told_few : (q : PrimaryParts D) (task : FlushTask) → left.sizes ≡ sizes_in places → primary_of (printed r.log) ≡ Some n → IsTaskOf p task → q ≡ after_start p (Some task) → IsPrimary cells q

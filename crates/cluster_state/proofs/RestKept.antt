@@ -19,7 +19,7 @@ use Rattle.cluster_nodes.specs.declared.nodes.NodePlace.{NodePlace}
 use Rattle.cluster_nodes.specs.Changes.{KeepsNode}
 use Rattle.cluster_nodes.specs.Given.{merge_sizes}
 use Rattle.cluster_nodes.specs.Places.{place_of, unwrapped}
-use Rattle.cluster_state.specs.Run.{Rest, Run}
+use Rattle.cluster_state.specs.Run.{Rest, Run, KeepsRest}
 use Rattle.cluster_state.specs.CallsLeft.{stage_calls, place_calls, calls_in}
 use Rattle.cluster_state.specs.JobsIn.{job_files, place_files, jobs_in}
 use Rattle.cluster_state.specs.MergedCopies.{told_copy, place_copies, copies_in}
@@ -35,6 +35,9 @@ pub kept_rest : (r : Run) {ended : Bool} {nodes : ℕ} {log : Log} (left now : R
 kept_rest r left now view calls cut sizes jobs copies tasks =
     (λ i. record { calls_left = calls i; cut = cut i; sizes = sizes i; jobs = jobs i; copies = copies i; tasks = tasks i; plans = now.plans })
     ∙ ap (λ (x : Run). record x.rest { plans = now.plans }) view
+
+pub rest_then : (a b c : Run) → KeepsRest a b → KeepsRest b c → KeepsRest a c
+rest_then a b c first second = second ∙ ap (λ (left : Rest). record left { plans = c.rest.plans }) first
 
 -- ---- over places
 
