@@ -1,7 +1,7 @@
 pub mod BookLaws
 pub mod Disks
 pub mod Drawn
-mod Ended
+pub mod Ended
 pub mod Faulted
 pub mod FileFrames
 pub mod FileJobs

@@ -1,6 +1,7 @@
 use Rattle.cluster_state.proofs.Rows.{fresh_start, legal_at}
 use Rattle.cluster_search.proofs.ReadRows.{ticket_told, close_rule, close_node}
 use Rattle.cluster_state.proofs.LifeRows.{fresh_no_commit}
+use Rattle.cluster_state.proofs.Ended.{closed_key}
 use Rattle.cluster_search.proofs.tickets.ticket_close.Goals as goal
 
 pub has_no_commit-requires : goal.has_no_commit-requires
@@ -19,3 +20,6 @@ note_without-requires-clause-node g c =
 
 pub note_without-requires-clause-apart : goal.note_without-requires-clause-apart
 note_without-requires-clause-apart g c = λ m other. other
+
+pub note_without-requires-clause-ends : goal.note_without-requires-clause-ends
+note_without-requires-clause-ends g c = closed_key _ c.args.at c.in-Some.opening.node c.args.t
