@@ -54,6 +54,12 @@ appended cells plans old new r result x is was ended files safe calm = record {
   calm = calm was.calm;
 }
 
+-- one more record is there where a log is
+pub noted : {D : Type 0} {X E : Type 0} (old : Option (TransLog D)) (was now : TransLog D) (entry : LogOp) (r : Result X E) → old ≡ Some was → OnOk r (now.records.items ≡ was.records.items ++ entry ∷ [])
+    → OnOk r (◌≡◌ {A = Option (List LogOp)} (Some now.records.items) (with_record entry (records_of old)))
+noted old was now entry (Ok x) is more = ap Some more ∙ sym (ap (λ (o : Option (TransLog _)). with_record entry (records_of o)) is)
+noted old was now entry (Err e) is more = tt
+
 -- ---- one more record
 
 operations_more : (records : List LogOp) (r : LogOp) → operations_in (records ++ r ∷ []) ≡ operations_in records ++ r.op ∷ []

@@ -201,24 +201,31 @@ module _ {D : Type 0} (cells : D → Cells) (plans : D → Option Plans) (n : No
         by (Ok x) done more = (whole done).goes
         by (Err e) done more = goes_join (is_some (records_of log)) (Promote n force) at old.log mid.log new.log (promotion_goes n force at (records_of log) old.log mid.log step_here fresh_here now.log) (more n force)
 
-    pub promoted_stands : {X E : Type 0} (r : Result X E) → OnErr r (new.ended ≡ true) → OnOk r (AcceptsLacking at mid.log new.log (records_of log))
+    promoted_was : {X E : Type 0} (r : Result X E) → OnErr r (new.ended ≡ true) → OnOk r (AcceptsLacking at mid.log new.log (records_of log))
         → OnErr r ((m : NodeNo) (f : Force) → GoesByLine (is_some (records_of log)) (Promote m f) at mid.log new.log) → SiteStands cells plans new log
-    promoted_stands (Ok x) ended done more = record {
+    promoted_was (Ok x) ended done more = record {
       faults = (call_goes (is_some (records_of log)) (Promote n force) at old.log new.log was.faults (whole done).goes).faults;
       in_step = λ _. (whole done).step;
       stands = λ _. was.stands runs;
     }
-    promoted_stands (Err e) ended done more = record {
+    promoted_was (Err e) ended done more = record {
       faults = (call_goes (is_some (records_of log)) (Promote n force) at old.log new.log was.faults
           (goes_join (is_some (records_of log)) (Promote n force) at old.log mid.log new.log (promotion_goes n force at (records_of log) old.log mid.log step_here fresh_here now.log) (more n force))).faults;
       in_step = λ runs_on. absurd (true≢false (sym ended ∙ runs_on));
       stands = λ runs_on. absurd (true≢false (sym ended ∙ runs_on));
     }
 
-    pub promoted_does : {X E : Type 0} (r : Result X E) → OnOk r (new.ended ≡ false) → OnOk r (AcceptsLacking at mid.log new.log (records_of log)) → OnOk r (DoesAtSite (Promote n force) at s (site_of new log))
-    promoted_does (Ok x) goes_on done =
-        subst (λ (z : SiteRun). DoesAtSite (Promote n force) at z (site_of new log)) view (record { running = goes_on; nodes = same ∙ now.nodes; logged = refl; goes = (whole done).goes })
-    promoted_does (Err e) goes_on done = tt
+    -- the log of the site is as before
+    pub promoted_stands : {X E : Type 0} (r : Result X E) (later : Option (TransLog D)) → later ≡ log → OnErr r (new.ended ≡ true) → OnOk r (AcceptsLacking at mid.log new.log (records_of log))
+        → OnErr r ((m : NodeNo) (f : Force) → GoesByLine (is_some (records_of log)) (Promote m f) at mid.log new.log) → SiteStands cells plans new later
+    promoted_stands r later is ended done more = subst (λ (l : Option (TransLog D)). SiteStands cells plans new l) (sym is) (promoted_was r ended done more)
+
+    pub promoted_does : {X E : Type 0} (r : Result X E) (later : Option (TransLog D)) → later ≡ log → OnOk r (new.ended ≡ false) → OnOk r (AcceptsLacking at mid.log new.log (records_of log))
+        → OnOk r (DoesAtSite (Promote n force) at s (site_of new later))
+    promoted_does (Ok x) later is goes_on done =
+        subst (λ (z : SiteRun). DoesAtSite (Promote n force) at z (site_of new later)) view
+        (record { running = goes_on; nodes = same ∙ now.nodes; logged = ap (λ (l : Option (TransLog D)). is_some (records_of l)) is; goes = (whole done).goes })
+    promoted_does (Err e) later is goes_on done = tt
 
     pub promoted_replied : {X E : Type 0} (r : Result X E) → OnOk r (AcceptsLacking at mid.log new.log (records_of log)) → OnOk r (IsReplied at new)
     promoted_replied (Ok x) done = (whole done).replied

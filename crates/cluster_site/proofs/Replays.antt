@@ -102,6 +102,20 @@ none_newest (e ∷ entries) none = absurd (let some : suc (length entries) ≡ 0
 lacks_at : (records found : List LogOp) (past : Past) (o : Option ℕ) (v : ℕ) → o ≡ Some v → found ≡ drop (length (operations_at past v)) records → LacksBehind records past o found
 lacks_at records found past o v is same = subst (λ (x : Option ℕ). LacksBehind records past x found) (sym is) same
 
+module _ (past : Past) (kept : Option (List LogOp)) where
+  pub lacks_unlogged : kept ≡ None → Lacks kept past None
+  lacks_unlogged is = subst (λ (k : Option (List LogOp)). Lacks k past None) (sym is) refl
+
+  pub lacks_unpromoted : (records : List LogOp) → kept ≡ Some records → newest_promoted past ≡ None → Lacks kept past None
+  lacks_unpromoted records is none = subst (λ (k : Option (List LogOp)). Lacks k past None) (sym is) none
+
+  pub lacks_found : (records found : List LogOp) (v : ℕ) → kept ≡ Some records → newest_promoted past ≡ Some v → found ≡ drop (length (operations_at past v)) records → Lacks kept past (Some found)
+  lacks_found records found v is promoted same = subst (λ (k : Option (List LogOp)). Lacks k past (Some found)) (sym is) (lacks_at records found past (newest_promoted past) v promoted same)
+
+-- what a call found, in the terms of its caller
+pub lacks_here : (kept : Option (List LogOp)) (past now : Past) (o p : Option (List LogOp)) → past ≡ now → o ≡ p → Lacks kept past o → Lacks kept now p
+lacks_here kept past now o p same is lacks = subst (λ (x : Past × Option (List LogOp)). Lacks kept x.0 x.1) (λ i. (same i, is i)) lacks
+
 -- ---- what is owed, and what was done
 
 -- the records that were found are due

@@ -82,11 +82,15 @@ impl<D: FaultDir + Drop> Site<D> {
             seq,
             op,
         };
-        if note(&mut self.log, &entry).is_err() {
-            self.cluster.end();
-            return Err(AllocError);
+        match note(&mut self.log, &entry) {
+            Ok(()) => {
+                let LogOp { op, .. } = entry;
+                self.cluster.accept(alloc, at, op)
+            }
+            Err(fault) => {
+                self.cluster.end();
+                Err(fault)
+            }
         }
-        let LogOp { op, .. } = entry;
-        self.cluster.accept(alloc, at, op)
     }
 }
