@@ -1,6 +1,7 @@
 -- What accepting an operation does where there is a log, and what a promotion does where there is none.
-use Rattle.std.proofs.Common.{◌≡◌, ◌↔◌, ◌+◌, ◌∷◌, ◌++◌, ℕ, Bool, true, false, List, [], Option, Some, None, refl, ap, ◌∙◌, sym, subst, true≢false, false≢true, if◌then◌else◌, drop}
+use Rattle.std.proofs.Common.{◌≡◌, ◌↔◌, ◌+◌, ◌∷◌, ◌++◌, ℕ, Bool, true, false, List, [], Option, Some, None, refl, ap, ◌∙◌, sym, subst, true≢false, if◌then◌else◌, drop}
 use Rattle.std.specs.Prelude.{Result, Ok, Err, OnOk, OnErr, IsTrue, IsErr, IsErrOf, is_some, is_none}
+use Rattle.std.proofs.lemmas.Bool.{false≢true}
 use Rattle.nrt_base.specs.declared.numbers.At.{At}
 use Rattle.nrt_base.specs.declared.numbers.NodeNo.{NodeNo}
 use Rattle.documents.specs.declared.operation.Op.{Op}

@@ -1,5 +1,5 @@
 -- How a line accepts again, behind its promotion, what is due.
-use Rattle.std.proofs.Common.{◌≡◌, ◌&&◌, ◌≤◌, ◌<◌, ◌⊎◌, suc, add-one, drop-cons, get_or, inl, inr, arith, ◌+◌, ◌∷◌, ◌++◌, ℕ, Bool, true, List, [], Option, Some, None, refl, ap, ◌∙◌, sym, subst, if◌then◌else◌, drop, length, reverse}
+use Rattle.std.proofs.Common.{◌≡◌, ◌&&◌, ◌≤◌, ◌<◌, ◌⊎◌, suc, drop-cons, get_or, inl, inr, arith, ◌+◌, ◌∷◌, ◌++◌, ℕ, Bool, true, List, [], Option, Some, None, refl, ap, ◌∙◌, sym, subst, if◌then◌else◌, drop, length, reverse}
 use Rattle.std.specs.Prelude.{Result, Ok, Err, OnErr, is_some}
 use Rattle.std.specs.Option.{option_map}
 use Rattle.std.proofs.lemmas.Bool.{or_right}
@@ -70,7 +70,9 @@ replays_one at base old new op ops r is = let k : ℕ = accepted_count (printed 
 pub replays_next : (at : At) (base old new : Log) (records : List LogOp) (i : ℕ) (entry : LogOp) → i < length records → entry ≡ get_or records i entry → ReplaysTo at base old (operations_in (drop i records))
     → new ≡ shown at (Accepted (accepted_count (printed old) + 1) entry.op) ∷ old → ReplaysTo at base new (operations_in (drop (i + 1) records))
 replays_next at base old new records i entry within item r is =
-    let here : drop i records ≡ entry ∷ drop (i + 1) records = rw (add-one, drop-cons records i entry) (ap (λ (x : LogOp). x ∷ drop (suc i) records) (sym item)) in
+    let next : suc i ≡ i + 1 = omega arith in
+    let here : drop i records ≡ entry ∷ drop (i + 1) records =
+        subst (λ (k : ℕ). drop i records ≡ entry ∷ drop k records) next (drop-cons records i entry within ∙ ap (λ (x : LogOp). x ∷ drop (suc i) records) (sym item)) in
     replays_one at base old new entry.op (operations_in (drop (i + 1) records)) (subst (λ (rs : List LogOp). ReplaysTo at base old (operations_in rs)) here r) is
 
 pub replays_all : (at : At) (base now : Log) (records : List LogOp) (i : ℕ) → length records ≤ i → ReplaysTo at base now (operations_in (drop i records)) → ReplaysTo at base now []
@@ -142,10 +144,15 @@ all_lacking at old new (Some records) found lacks done = by (newest_promoted (pr
     by (Some v) lacks = done
 
 -- some of it was
-pub some_lacking : (at : At) (old new : Log) (kept : Option (List LogOp)) (found : List LogOp) (n : NodeNo) (force : Force) → Lacks kept (printed old) (Some found) → GoesByLine true (Promote n force) at old new
+some_lacking : (at : At) (old new : Log) (kept : Option (List LogOp)) (found : List LogOp) (n : NodeNo) (force : Force) → Lacks kept (printed old) (Some found) → GoesByLine true (Promote n force) at old new
     → GoesByLine (is_some kept) (Promote n force) at old new
 some_lacking at old new None found n force lacks goes = absurd (some_none found lacks)
 some_lacking at old new (Some records) found n force lacks goes = goes
+
+pub some_replayed : {X E : Type 0} (r : Result X E) (at : At) (old new : Log) (kept : Option (List LogOp)) (found : List LogOp) → Lacks kept (printed old) (Some found) → OnErr r ((n : NodeNo) (force : Force) → GoesByLine true (Promote n force) at old new)
+    → OnErr r ((n : NodeNo) (force : Force) → GoesByLine (is_some kept) (Promote n force) at old new)
+some_replayed (Ok x) at old new kept found lacks goes = tt
+some_replayed (Err e) at old new kept found lacks goes = λ n force. some_lacking at old new kept found n force lacks (goes n force)
 
 pub added_none : (logged : Bool) (command : LineCommand) (at : At) (old new : Log) → new ≡ old → GoesByLine logged command at old new
 added_none logged command at old new same = record { more = []; log = same; adds = tt }

@@ -88,6 +88,7 @@ impl<D: FaultDir + Drop> Site<D> {
                 self.cluster.accept(alloc, at, op)
             }
             Err(fault) => {
+                drop(entry);
                 self.cluster.end();
                 Err(fault)
             }

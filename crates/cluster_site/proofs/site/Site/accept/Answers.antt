@@ -13,8 +13,8 @@ use Rattle.cluster_site.proofs.site.Site.accept.Goals as goal
 
 -- ---- no primary runs
 
-pub invariant_of-self-in_default : goal.invariant_of-self-in_default
-invariant_of-self-in_default g c =
+pub invariant_of-self : goal.invariant_of-self
+invariant_of-self g c =
     refused_stands g.D.Dir.cells g.D.Dir.plans c.self.inside.cluster c.accept.new.self c.self.inside.log c.self.inside.log c.args.self.now c.args.op c.args.at (accepted_count (printed c.self.inside.cluster.log) + 1) c.self.view_is c.requires.running c.self.invariant
     c.accept.result (sym c.next_accept.ensures.primary ∙ ap is_some c.in_default.is) c.accept.ensures.ok c.accept.ensures.does c.accept.ensures.err
 
@@ -45,17 +45,17 @@ returns-in-Err-clause-err g c = subst (λ (s : SiteRun). IsEnded s.run c.end.new
 
 pub invariant_of-self-in-Ok : goal.invariant_of-self-in-Ok
 invariant_of-self-in-Ok g c =
-    accept_stands g.D.Dir.cells g.D.Dir.plans c.self.inside.cluster c.accept.new.self c.self.inside.log c.note.new.log c.args.self.now c.args.op c.args.at (accepted_count (printed c.self.inside.cluster.log) + 1) c.self.view_is c.requires.running c.self.invariant
-    c.accept.result _ refl c.requires.fresh (sym c.next_accept.ensures.primary ∙ ap is_some c.in-Some.is) c.accept.ensures.ok c.accept.ensures.does c.accept.ensures.err c.in-Ok.ensures.records c.in-Ok.ensures.stands
+    accept_stands g.D.Dir.cells g.D.Dir.plans c.self.inside.cluster c.accept-in-Ok.new.self c.self.inside.log c.note.new.log c.args.self.now c.args.op c.args.at (accepted_count (printed c.self.inside.cluster.log) + 1) c.self.view_is c.requires.running c.self.invariant
+    c.accept-in-Ok.result _ refl c.requires.fresh (sym c.next_accept.ensures.primary ∙ ap is_some c.in-Some.is) c.accept-in-Ok.ensures.ok c.accept-in-Ok.ensures.does c.accept-in-Ok.ensures.err c.in-Ok.ensures.records c.in-Ok.ensures.stands
 
 pub returns-in-Ok-clause-ok : goal.returns-in-Ok-clause-ok
 returns-in-Ok-clause-ok g c =
-    subst (λ (s : SiteRun). OnOk c.accept.result (IsNow s.run c.accept.new.self (shown c.args.at (by_refusal (without_primary (printed s.run.log)) (Accepted (accepted_count (printed s.run.log) + 1) c.args.op)) ∷ s.run.log))) c.self.view_is c.accept.ensures.ok
+    subst (λ (s : SiteRun). OnOk c.accept-in-Ok.result (IsNow s.run c.accept-in-Ok.new.self (shown c.args.at (by_refusal (without_primary (printed s.run.log)) (Accepted (accepted_count (printed s.run.log) + 1) c.args.op)) ∷ s.run.log))) c.self.view_is c.accept-in-Ok.ensures.ok
 
 pub returns-in-Ok-clause-err : goal.returns-in-Ok-clause-err
-returns-in-Ok-clause-err g c = subst (λ (s : SiteRun). OnErr c.accept.result (IsEnded s.run c.accept.new.self)) c.self.view_is c.accept.ensures.err
+returns-in-Ok-clause-err g c = subst (λ (s : SiteRun). OnErr c.accept-in-Ok.result (IsEnded s.run c.accept-in-Ok.new.self)) c.self.view_is c.accept-in-Ok.ensures.err
 
 pub returns-in-Ok-clause-does : goal.returns-in-Ok-clause-does
 returns-in-Ok-clause-does g c =
-    accept_does g.D.Dir.cells g.D.Dir.plans c.self.inside.cluster c.accept.new.self c.self.inside.log c.note.new.log c.args.self.now c.args.op c.args.at (accepted_count (printed c.self.inside.cluster.log) + 1) c.self.view_is c.requires.running c.self.invariant
-    c.accept.result c.note.ensures.same c.accept.ensures.does
+    accept_does g.D.Dir.cells g.D.Dir.plans c.self.inside.cluster c.accept-in-Ok.new.self c.self.inside.log c.note.new.log c.args.self.now c.args.op c.args.at (accepted_count (printed c.self.inside.cluster.log) + 1) c.self.view_is c.requires.running c.self.invariant
+    c.accept-in-Ok.result c.note.ensures.same c.accept-in-Ok.ensures.does

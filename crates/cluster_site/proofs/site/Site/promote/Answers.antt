@@ -7,8 +7,8 @@ use Rattle.cluster_site.proofs.site.Site.promote.Goals as goal
 
 -- ---- the promotion found no memory
 
-pub invariant_of-self-in_err-promote : goal.invariant_of-self-in_err-promote
-invariant_of-self-in_err-promote g c = ended_stands g.D.Dir.cells g.D.Dir.plans c.self.inside.cluster c.promote.new.self c.self.inside.log c.args.self.now c.self.view_is c.requires.running c.self.invariant c.in_err-promote.ensures.err
+pub invariant_of-self : goal.invariant_of-self
+invariant_of-self g c = ended_stands g.D.Dir.cells g.D.Dir.plans c.self.inside.cluster c.promote.new.self c.self.inside.log c.args.self.now c.self.view_is c.requires.running c.self.invariant c.in_err-promote.ensures.err
 
 pub returns-in_err-promote-clause-goes : goal.returns-in_err-promote-clause-goes
 returns-in_err-promote-clause-goes g c = ended_goes (Promote c.args.n c.args.force) c.args.at c.self.inside.cluster c.promote.new.self c.self.inside.log c.args.self.now c.self.view_is c.in_err-promote.ensures.err
@@ -24,8 +24,8 @@ accept_lacking-requires-clause-stands g c = c.self.invariant.stands (runs_was c.
 pub accept_lacking-requires-clause-owes : goal.accept_lacking-requires-clause-owes
 accept_lacking-requires-clause-owes g c = promoted_owes g.D.Dir.cells g.D.Dir.plans c.args.n c.args.force c.args.at c.self.inside.cluster c.promote.new.self c.promote.new.self c.self.inside.log c.args.self.now c.self.view_is c.requires.running c.requires.fresh c.self.invariant c.in_ok-promote.ensures.ok
 
-pub invariant_of-self : goal.invariant_of-self
-invariant_of-self g c =
+pub invariant_of-self-2 : goal.invariant_of-self-2
+invariant_of-self-2 g c =
     promoted_stands g.D.Dir.cells g.D.Dir.plans c.args.n c.args.force c.args.at c.self.inside.cluster c.promote.new.self c.accept_lacking.new.cluster c.self.inside.log c.args.self.now c.self.view_is c.requires.running c.requires.fresh c.self.invariant c.in_ok-promote.ensures.ok
     c.accept_lacking.ensures.nodes c.in_ok-promote.ensures.replied c.accept_lacking.result c.accept_lacking.new.log c.accept_lacking.ensures.same c.accept_lacking.ensures.ended c.accept_lacking.ensures.done c.accept_lacking.ensures.goes
 
