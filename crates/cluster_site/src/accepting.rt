@@ -51,7 +51,7 @@ fn note<D: Dir>(log: &mut Option<TransLog<D>>, entry: &LogOp) -> Result<(), NoMe
 }
 
 impl<D: FaultDir + Drop> Site<D> {
-    ghost use Rattle.std.specs.Prelude.{◌≡◌, ◌+◌, ◌∷◌, [], false, OnOk, OnErr};
+    ghost use Rattle.std.specs.Prelude.{◌≡◌, ◌+◌, ◌<◌, ◌^◌, ◌∷◌, [], false, OnOk, OnErr};
     ghost use Rattle.history_rules.specs.Nodes.{accepted_count};
     ghost use Rattle.history_rules.specs.Lines.{entries_of_line};
     ghost use Rattle.history_book.specs.Log.{printed, shown};
@@ -59,7 +59,7 @@ impl<D: FaultDir + Drop> Site<D> {
     ghost use Rattle.cluster_state.specs.Run.{IsNow, IsEnded};
     ghost use Rattle.cluster_state.specs.Calls.{by_refusal};
     ghost use Rattle.cluster_core.specs.Doing.{IsReplied, writing_command};
-    ghost use Rattle.cluster_site.specs.Sites.{DoesAtSite};
+    ghost use Rattle.cluster_site.specs.Sites.{DoesAtSite, with_next};
 
     /// Accepts an operation: a put, a delete or a drop. Where a primary runs, the log has it before.
     pub fn accept(&mut self, alloc: Global, at: At, op: Op) -> Result<(), NoMemory>
@@ -69,6 +69,8 @@ impl<D: FaultDir + Drop> Site<D> {
             (by_refusal (without_primary (printed self.old.run.log))
             (Event.Accepted (accepted_count (printed self.old.run.log) + 1) op)) ∷ self.old.run.log)) }
         ensures err { OnErr result (IsEnded self.old.run self.new.run) }
+        ensures kept { accepted_count (printed self.old.run.log) + 1 < 2 ^ 32 → OnOk result
+            (self.new.kept ≡ with_next op (printed self.old.run.log) self.old.kept) }
 
         // what the line is owed
         ensures does { OnOk result (DoesAtSite (writing_command op) at self.old self.new) }

@@ -1,7 +1,7 @@
-use Rattle.std.proofs.Common.{◌∙◌, ap, sym, subst}
-use Rattle.std.specs.Prelude.{Option, is_some}
+use Rattle.std.proofs.Common.{subst}
+use Rattle.std.specs.Prelude.{Option}
 use Rattle.trans_log.specs.declared.log.TransLog.{TransLog}
-use Rattle.cluster_site.specs.Sites.{LogStands, records_of}
+use Rattle.cluster_site.specs.Sites.{LogStands}
 use Rattle.cluster_site.proofs.Accepts.{noted}
 use Rattle.cluster_site.proofs.accepting.note.Goals as goal
 

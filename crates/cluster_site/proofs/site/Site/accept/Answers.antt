@@ -8,7 +8,7 @@ use Rattle.cluster_state.specs.Run.{IsNow, IsEnded}
 use Rattle.cluster_state.specs.Calls.{by_refusal}
 use Rattle.cluster_site.specs.Sites.{SiteRun}
 use Rattle.cluster_site.proofs.Stands.{runs_was}
-use Rattle.cluster_site.proofs.Accepts.{refused_stands, unlogged_stands, accept_stands, accept_does}
+use Rattle.cluster_site.proofs.Accepts.{refused_stands, unlogged_stands, accept_stands, accept_does, kept_same, kept_more}
 use Rattle.cluster_site.proofs.site.Site.accept.Goals as goal
 
 -- ---- no primary runs
@@ -29,6 +29,9 @@ pub returns-in_default-clause-does : goal.returns-in_default-clause-does
 returns-in_default-clause-does g c =
     accept_does g.D.Dir.cells g.D.Dir.plans c.self.inside.cluster c.accept.new.self c.self.inside.log c.self.inside.log c.args.self.now c.args.op c.args.at (accepted_count (printed c.self.inside.cluster.log) + 1) c.self.view_is c.requires.running c.self.invariant
     c.accept.result refl c.accept.ensures.does
+
+pub returns-in_default-clause-kept : goal.returns-in_default-clause-kept
+returns-in_default-clause-kept g c = λ few. kept_same c.self.inside.cluster c.self.inside.log c.self.inside.log c.args.self.now c.args.op c.self.view_is c.accept.result (sym c.next_accept.ensures.primary ∙ ap is_some c.in_default.is) refl
 
 -- ---- one runs: the log comes first
 
@@ -59,3 +62,8 @@ pub returns-in-Ok-clause-does : goal.returns-in-Ok-clause-does
 returns-in-Ok-clause-does g c =
     accept_does g.D.Dir.cells g.D.Dir.plans c.self.inside.cluster c.accept-in-Ok.new.self c.self.inside.log c.note.new.log c.args.self.now c.args.op c.args.at (accepted_count (printed c.self.inside.cluster.log) + 1) c.self.view_is c.requires.running c.self.invariant
     c.accept-in-Ok.result c.note.ensures.same c.accept-in-Ok.ensures.does
+
+pub returns-in-Ok-clause-kept : goal.returns-in-Ok-clause-kept
+returns-in-Ok-clause-kept g c =
+    kept_more c.self.inside.cluster c.self.inside.log c.note.new.log c.args.self.now c.args.op c.self.view_is c.accept-in-Ok.result _ refl (sym c.next_accept.ensures.primary ∙ ap is_some c.in-Some.is)
+    c.in-Some.ensures.generation c.in-Some.ensures.number c.in-Ok.ensures.records
