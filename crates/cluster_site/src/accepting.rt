@@ -56,7 +56,7 @@ impl<D: FaultDir + Drop> Site<D> {
     ghost use Rattle.history_rules.specs.Lines.{entries_of_line};
     ghost use Rattle.history_book.specs.Log.{printed, shown};
     ghost use Rattle.script_serving.specs.Refusals.{without_primary};
-    ghost use Rattle.cluster_state.specs.Run.{IsNow, IsEnded};
+    ghost use Rattle.cluster_state.specs.Run.{IsNow, KeepsRest, IsEnded};
     ghost use Rattle.cluster_state.specs.Calls.{by_refusal};
     ghost use Rattle.cluster_core.specs.Doing.{IsReplied, writing_command};
     ghost use Rattle.cluster_site.specs.Sites.{DoesAtSite, with_next};
@@ -68,6 +68,7 @@ impl<D: FaultDir + Drop> Site<D> {
         ensures ok { OnOk result (IsNow self.old.run self.new.run (shown at
             (by_refusal (without_primary (printed self.old.run.log))
             (Event.Accepted (accepted_count (printed self.old.run.log) + 1) op)) ∷ self.old.run.log)) }
+        ensures rest { OnOk result (KeepsRest self.old.run self.new.run) }
         ensures err { OnErr result (IsEnded self.old.run self.new.run) }
         ensures kept { accepted_count (printed self.old.run.log) + 1 < 2 ^ 32 → OnOk result
             (self.new.kept ≡ with_next op (printed self.old.run.log) self.old.kept) }

@@ -4,7 +4,7 @@ use Rattle.history_rules.specs.declared.entry.Event.TheVariants.{Accepted}
 use Rattle.history_rules.specs.Nodes.{accepted_count}
 use Rattle.history_book.specs.Log.{printed, shown}
 use Rattle.script_serving.specs.Refusals.{without_primary}
-use Rattle.cluster_state.specs.Run.{IsNow, IsEnded}
+use Rattle.cluster_state.specs.Run.{IsNow, IsEnded, KeepsRest}
 use Rattle.cluster_state.specs.Calls.{by_refusal}
 use Rattle.cluster_site.specs.Sites.{SiteRun}
 use Rattle.cluster_site.proofs.Stands.{runs_was}
@@ -21,6 +21,9 @@ invariant_of-self g c =
 pub returns-in_default-clause-ok : goal.returns-in_default-clause-ok
 returns-in_default-clause-ok g c =
     subst (λ (s : SiteRun). OnOk c.accept.result (IsNow s.run c.accept.new.self (shown c.args.at (by_refusal (without_primary (printed s.run.log)) (Accepted (accepted_count (printed s.run.log) + 1) c.args.op)) ∷ s.run.log))) c.self.view_is c.accept.ensures.ok
+
+pub returns-in_default-clause-rest : goal.returns-in_default-clause-rest
+returns-in_default-clause-rest g c = subst (λ (s : SiteRun). OnOk c.accept.result (KeepsRest s.run c.accept.new.self)) c.self.view_is c.accept.ensures.rest
 
 pub returns-in_default-clause-err : goal.returns-in_default-clause-err
 returns-in_default-clause-err g c = subst (λ (s : SiteRun). OnErr c.accept.result (IsEnded s.run c.accept.new.self)) c.self.view_is c.accept.ensures.err
@@ -54,6 +57,9 @@ invariant_of-self-in-Ok g c =
 pub returns-in-Ok-clause-ok : goal.returns-in-Ok-clause-ok
 returns-in-Ok-clause-ok g c =
     subst (λ (s : SiteRun). OnOk c.accept-in-Ok.result (IsNow s.run c.accept-in-Ok.new.self (shown c.args.at (by_refusal (without_primary (printed s.run.log)) (Accepted (accepted_count (printed s.run.log) + 1) c.args.op)) ∷ s.run.log))) c.self.view_is c.accept-in-Ok.ensures.ok
+
+pub returns-in-Ok-clause-rest : goal.returns-in-Ok-clause-rest
+returns-in-Ok-clause-rest g c = subst (λ (s : SiteRun). OnOk c.accept-in-Ok.result (KeepsRest s.run c.accept-in-Ok.new.self)) c.self.view_is c.accept-in-Ok.ensures.rest
 
 pub returns-in-Ok-clause-err : goal.returns-in-Ok-clause-err
 returns-in-Ok-clause-err g c = subst (λ (s : SiteRun). OnErr c.accept-in-Ok.result (IsEnded s.run c.accept-in-Ok.new.self)) c.self.view_is c.accept-in-Ok.ensures.err
