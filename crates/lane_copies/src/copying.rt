@@ -1,6 +1,6 @@
 //! Copies.
 
-ghost use Rattle.std.specs.Prelude.{◌≡◌, [], false, OnOk, IfOk};
+ghost use Rattle.std.specs.Prelude.{◌≡◌, [], OnOk, IfOk};
 ghost use Rattle.history_rules.specs.Nodes.{IsNode};
 ghost use Rattle.history_rules.specs.Lines.{entries_of_line};
 ghost use Rattle.history_book.specs.Log.{printed};
@@ -13,8 +13,8 @@ use crate::jobs::bring_over;
 use cluster_nodes::CopyTask;
 use disk_model::FaultDir;
 use hist_lock::{HistLock, LaneSeat};
-use lane_sections::{Cluster, Gate, Turn, enter_cluster, give_way};
-use lane_threads::{Halt, leave};
+use lane_sections::{Gate, Site, Turn, enter_site, give_way};
+use lane_threads::{Halt, Setup, leave};
 use nrt_base::{At, NoMemory, NodeNo};
 use std::alloc::Global;
 use std::sync::Wait;
@@ -23,19 +23,19 @@ use std::sync::Wait;
 fn start<R: Wait, D: FaultDir + Drop>(
     rt: &R,
     alloc: Global,
-    lock: &HistLock<Cluster<D>>,
-    nodes: u8,
-    seat: &mut LaneSeat<Cluster<D>>,
+    lock: &HistLock<Site<D>>,
+    setup: Setup,
+    seat: &mut LaneSeat<Site<D>>,
     at: At,
     n: NodeNo,
 ) -> Result<Turn<CopyTask>, NoMemory>
-    requires seat { IsLaneSeat false lock.now at.lane.0 seat.old }
+    requires seat { IsLaneSeat setup.log lock.now at.lane.0 seat.old }
     requires fresh { entries_of_line at (printed (log_seen seat.old)) ≡ [] }
-    requires node { IsNode nodes n.0 }
-    ensures { IfOk result (TurnsLine (BeginsCopy at n) (IsUnbegunIn at) lock.now (Copy n) at
-        seat.old seat.new) }
+    requires node { IsNode setup.nodes n.0 }
+    ensures { IfOk result (TurnsLine setup.log (BeginsCopy at n) (IsUnbegunIn at)
+        lock.now (Copy n) at seat.old seat.new) }
 {
-    let mut held = enter_cluster(rt, lock, nodes, at, seat)?;
+    let mut held = enter_site(rt, lock, setup, at, seat)?;
     let answer = held.value().copy_start(alloc, at, n);
     leave(lock, at.lane, seat, held);
     answer
@@ -45,24 +45,24 @@ fn start<R: Wait, D: FaultDir + Drop>(
 pub fn copy<R: Wait, D: FaultDir + Drop, G: Gate>(
     rt: &R,
     alloc: Global,
-    lock: &HistLock<Cluster<D>>,
-    nodes: u8,
+    lock: &HistLock<Site<D>>,
+    setup: Setup,
     gate: &G,
     halt: &Halt,
-    seat: &mut LaneSeat<Cluster<D>>,
+    seat: &mut LaneSeat<Site<D>>,
     at: At,
     n: NodeNo,
 ) -> Result<(), NoMemory>
-    requires seat { IsLaneSeat false lock.now at.lane.0 seat.old }
+    requires seat { IsLaneSeat setup.log lock.now at.lane.0 seat.old }
     requires fresh { entries_of_line at (printed (log_seen seat.old)) ≡ [] }
-    requires node { IsNode nodes n.0 }
-    ensures { OnOk result (EndsItsLine false lock.now (Copy n) at seat.old seat.new) }
+    requires node { IsNode setup.nodes n.0 }
+    ensures { OnOk result (EndsItsLine setup.log lock.now (Copy n) at seat.old seat.new) }
 {
     for _ in rt.forever() {
-        match start(rt, alloc, lock, nodes, seat, at, n)? {
+        match start(rt, alloc, lock, setup, seat, at, n)? {
             Turn::Busy => give_way(halt)?,
             Turn::Done => return Ok(()),
-            Turn::Work(task) => return bring_over(rt, alloc, lock, nodes, gate, seat, at, &task),
+            Turn::Work(task) => return bring_over(rt, alloc, lock, setup, gate, seat, at, &task),
         }
     }
     unreachable!()

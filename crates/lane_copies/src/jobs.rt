@@ -1,6 +1,6 @@
 //! A job, file after file. Each call is a section, and between them files are carried.
 
-ghost use Rattle.std.specs.Prelude.{◌≡◌, false, Some, OnOk, IfOk};
+ghost use Rattle.std.specs.Prelude.{◌≡◌, Some, OnOk, IfOk};
 ghost use Rattle.copy_state.specs.Meta.{IsMetaOf};
 ghost use Rattle.cluster_state.specs.FilesOut.{file_out};
 ghost use Rattle.lane_threads.specs.Seats.{log_seen, IsLaneSeat};
@@ -12,8 +12,8 @@ use cluster_nodes::{CopyTask, FileTask};
 use copy_job::Part;
 use disk_model::FaultDir;
 use hist_lock::{HistLock, LaneSeat};
-use lane_sections::{Cluster, Gate, Turn, enter_cluster};
-use lane_threads::leave;
+use lane_sections::{Gate, Site, Turn, enter_site};
+use lane_threads::{Setup, leave};
 use nrt_base::{At, NoMemory};
 use std::alloc::Global;
 use std::sync::Wait;
@@ -22,18 +22,18 @@ use std::sync::Wait;
 fn hand_out<R: Wait, D: FaultDir + Drop>(
     rt: &R,
     alloc: Global,
-    lock: &HistLock<Cluster<D>>,
-    nodes: u8,
-    seat: &mut LaneSeat<Cluster<D>>,
+    lock: &HistLock<Site<D>>,
+    setup: Setup,
+    seat: &mut LaneSeat<Site<D>>,
     at: At,
     task: &CopyTask,
 ) -> Result<Turn<FileTask>, NoMemory>
-    requires seat { IsLaneSeat false lock.now at.lane.0 seat.old }
+    requires seat { IsLaneSeat setup.log lock.now at.lane.0 seat.old }
     requires copying { IsCopyingBy at task.now (log_seen seat.old) }
-    ensures { IfOk result (TurnsJob (HasFileOut at task.now) nodes lock.now at task.now
-        seat.old seat.new) }
+    ensures { IfOk result (TurnsJob setup.log (HasFileOut at task.now) setup.nodes
+        lock.now at task.now seat.old seat.new) }
 {
-    let mut held = enter_cluster(rt, lock, nodes, at, seat)?;
+    let mut held = enter_site(rt, lock, setup, at, seat)?;
     let answer = next_file(held.value(), alloc, at, task);
     leave(lock, at.lane, seat, held);
     answer
@@ -42,22 +42,22 @@ fn hand_out<R: Wait, D: FaultDir + Drop>(
 // Brings a part back to its job.
 fn bring_back<R: Wait, D: FaultDir + Drop>(
     rt: &R,
-    lock: &HistLock<Cluster<D>>,
-    nodes: u8,
-    seat: &mut LaneSeat<Cluster<D>>,
+    lock: &HistLock<Site<D>>,
+    setup: Setup,
+    seat: &mut LaneSeat<Site<D>>,
     at: At,
     task: &CopyTask,
     part: Part,
 ) -> Result<Turn<()>, NoMemory>
-    requires seat { IsLaneSeat false lock.now at.lane.0 seat.old }
+    requires seat { IsLaneSeat setup.log lock.now at.lane.0 seat.old }
     requires copying { IsCopyingBy at task.now (log_seen seat.old) }
     requires out { file_out at task.now.node.0 task.now.job part.name (log_seen seat.old)
         ≡ Some part.bytes }
     requires meta { IsMetaOf part.bytes part.meta }
-    ensures { IfOk result (TurnsJob (λ taken. IsCopyingBy at task.now) nodes lock.now at task.now
-        seat.old seat.new) }
+    ensures { IfOk result (TurnsJob setup.log (λ taken. IsCopyingBy at task.now) setup.nodes
+        lock.now at task.now seat.old seat.new) }
 {
-    let mut held = enter_cluster(rt, lock, nodes, at, seat)?;
+    let mut held = enter_site(rt, lock, setup, at, seat)?;
     let answer = take_part(held.value(), at, task, part);
     leave(lock, at.lane, seat, held);
     answer
@@ -67,45 +67,45 @@ fn bring_back<R: Wait, D: FaultDir + Drop>(
 fn bring_file<R: Wait, D: FaultDir + Drop, G: Gate>(
     rt: &R,
     alloc: Global,
-    lock: &HistLock<Cluster<D>>,
-    nodes: u8,
+    lock: &HistLock<Site<D>>,
+    setup: Setup,
     gate: &G,
-    seat: &mut LaneSeat<Cluster<D>>,
+    seat: &mut LaneSeat<Site<D>>,
     at: At,
     task: &CopyTask,
     file: &FileTask,
 ) -> Result<Turn<()>, NoMemory>
-    requires seat { IsLaneSeat false lock.now at.lane.0 seat.old }
+    requires seat { IsLaneSeat setup.log lock.now at.lane.0 seat.old }
     requires out { HasFileOut at task.now file.now (log_seen seat.old) }
-    ensures { IfOk result (TurnsJob (λ taken. IsCopyingBy at task.now) nodes lock.now at task.now
-        seat.old seat.new) }
+    ensures { IfOk result (TurnsJob setup.log (λ taken. IsCopyingBy at task.now) setup.nodes
+        lock.now at task.now seat.old seat.new) }
 {
     let part = carry(alloc, gate, at, task.node, file)?;
-    bring_back(rt, lock, nodes, seat, at, task, part)
+    bring_back(rt, lock, setup, seat, at, task, part)
 }
 
 /// Brings over what a job lacks, file after file, until it has ended.
 pub fn bring_over<R: Wait, D: FaultDir + Drop, G: Gate>(
     rt: &R,
     alloc: Global,
-    lock: &HistLock<Cluster<D>>,
-    nodes: u8,
+    lock: &HistLock<Site<D>>,
+    setup: Setup,
     gate: &G,
-    seat: &mut LaneSeat<Cluster<D>>,
+    seat: &mut LaneSeat<Site<D>>,
     at: At,
     task: &CopyTask,
 ) -> Result<(), NoMemory>
-    requires seat { IsLaneSeat false lock.now at.lane.0 seat.old }
+    requires seat { IsLaneSeat setup.log lock.now at.lane.0 seat.old }
     requires copying { IsCopyingBy at task.now (log_seen seat.old) }
-    ensures { OnOk result (StepsJob nodes lock.now at task.now (IsCopyReplied at)
+    ensures { OnOk result (StepsJob setup.log setup.nodes lock.now at task.now (IsCopyReplied at)
         seat.old seat.new) }
 {
     for _ in rt.forever() {
-        match hand_out(rt, alloc, lock, nodes, seat, at, task)? {
+        match hand_out(rt, alloc, lock, setup, seat, at, task)? {
             Turn::Busy => unreachable!(),
             Turn::Done => return Ok(()),
             Turn::Work(file) => {
-                match bring_file(rt, alloc, lock, nodes, gate, seat, at, task, &file)? {
+                match bring_file(rt, alloc, lock, setup, gate, seat, at, task, &file)? {
                     Turn::Busy => unreachable!(),
                     Turn::Done => return Ok(()),
                     Turn::Work(()) => {}

@@ -1,6 +1,6 @@
 //! Copies of merged segments, file after file. Each call is a section, and between them files are carried.
 
-ghost use Rattle.std.specs.Prelude.{◌≡◌, false, Some, IfOk, OnOk};
+ghost use Rattle.std.specs.Prelude.{◌≡◌, Some, IfOk, OnOk};
 ghost use Rattle.copy_state.specs.Meta.{IsMetaOf};
 ghost use Rattle.history_rules.specs.Nodes.{IsNode};
 ghost use Rattle.merge_tasks.specs.TaskLog.{carried_out};
@@ -12,8 +12,8 @@ use cluster_nodes::FileTask;
 use copy_job::Part;
 use disk_model::FaultDir;
 use hist_lock::{HistLock, LaneSeat};
-use lane_sections::{Cluster, Gate, Turn, enter_cluster, give_way};
-use lane_threads::{Halt, leave};
+use lane_sections::{Gate, Site, Turn, enter_site, give_way};
+use lane_threads::{Halt, Setup, leave};
 use merge_tasks::{Sent, Task};
 use nrt_base::{At, NoMemory};
 use std::alloc::Global;
@@ -23,19 +23,19 @@ use std::sync::Wait;
 fn hand_out<R: Wait, D: FaultDir + Drop>(
     rt: &R,
     alloc: Global,
-    lock: &HistLock<Cluster<D>>,
-    nodes: u8,
-    seat: &mut LaneSeat<Cluster<D>>,
+    lock: &HistLock<Site<D>>,
+    setup: Setup,
+    seat: &mut LaneSeat<Site<D>>,
     at: At,
     task: &Task,
     copy: Sent,
 ) -> Result<Turn<FileTask>, NoMemory>
-    requires seat { IsLaneSeat false lock.now at.lane.0 seat.old }
+    requires seat { IsLaneSeat setup.log lock.now at.lane.0 seat.old }
     requires by { IsTakerAt at task.now.by }
-    requires node { IsNode nodes copy.node.0 }
-    ensures { IfOk result (HandsOn lock.now at.lane.0 task.now.by seat.old seat.new) }
+    requires node { IsNode setup.nodes copy.node.0 }
+    ensures { IfOk result (HandsOn setup.log lock.now at.lane.0 task.now.by seat.old seat.new) }
 {
-    let mut held = enter_cluster(rt, lock, nodes, at, seat)?;
+    let mut held = enter_site(rt, lock, setup, at, seat)?;
     let answer = held.value().precopy_next(alloc, task, copy);
     leave(lock, at.lane, seat, held);
     answer
@@ -44,22 +44,22 @@ fn hand_out<R: Wait, D: FaultDir + Drop>(
 // Brings a part back to the copy of a task.
 fn bring_back<R: Wait, D: FaultDir + Drop>(
     rt: &R,
-    lock: &HistLock<Cluster<D>>,
-    nodes: u8,
-    seat: &mut LaneSeat<Cluster<D>>,
+    lock: &HistLock<Site<D>>,
+    setup: Setup,
+    seat: &mut LaneSeat<Site<D>>,
     at: At,
     task: &Task,
     copy: Sent,
     part: Part,
 ) -> Result<Turn<()>, NoMemory>
-    requires seat { IsLaneSeat false lock.now at.lane.0 seat.old }
+    requires seat { IsLaneSeat setup.log lock.now at.lane.0 seat.old }
     requires by { IsTakerAt at task.now.by }
-    requires node { IsNode nodes copy.node.0 }
+    requires node { IsNode setup.nodes copy.node.0 }
     requires out { carried_out part.name (log_seen seat.old) ≡ Some part.bytes }
     requires meta { IsMetaOf part.bytes part.meta }
-    ensures { OnOk result (WorksOn lock.now at.lane.0 task.now.by seat.old seat.new) }
+    ensures { OnOk result (WorksOn setup.log lock.now at.lane.0 task.now.by seat.old seat.new) }
 {
-    let mut held = enter_cluster(rt, lock, nodes, at, seat)?;
+    let mut held = enter_site(rt, lock, setup, at, seat)?;
     let answer = held.value().precopy_arrived(task, copy, part);
     leave(lock, at.lane, seat, held);
     answer
@@ -69,56 +69,56 @@ fn bring_back<R: Wait, D: FaultDir + Drop>(
 fn bring_file<R: Wait, D: FaultDir + Drop, G: Gate>(
     rt: &R,
     alloc: Global,
-    lock: &HistLock<Cluster<D>>,
-    nodes: u8,
+    lock: &HistLock<Site<D>>,
+    setup: Setup,
     gate: &G,
-    seat: &mut LaneSeat<Cluster<D>>,
+    seat: &mut LaneSeat<Site<D>>,
     at: At,
     task: &Task,
     copy: Sent,
     file: &FileTask,
 ) -> Result<Turn<()>, NoMemory>
-    requires seat { IsLaneSeat false lock.now at.lane.0 seat.old }
+    requires seat { IsLaneSeat setup.log lock.now at.lane.0 seat.old }
     requires by { IsTakerAt at task.now.by }
-    requires node { IsNode nodes copy.node.0 }
+    requires node { IsNode setup.nodes copy.node.0 }
     requires out { IsCarriedIn file.now (log_seen seat.old) }
-    ensures { OnOk result (WorksOn lock.now at.lane.0 task.now.by seat.old seat.new) }
+    ensures { OnOk result (WorksOn setup.log lock.now at.lane.0 task.now.by seat.old seat.new) }
 {
     let line = At {
         lane: at.lane,
         line: task.line,
     };
     let part = carry(alloc, gate, line, copy.node, file)?;
-    bring_back(rt, lock, nodes, seat, at, task, copy, part)
+    bring_back(rt, lock, setup, seat, at, task, copy, part)
 }
 
 /// Copies the files of a merged segment to a node, until the task has ended. Its end may post the task to cut over.
 pub fn copy_over<R: Wait, D: FaultDir + Drop, G: Gate>(
     rt: &R,
     alloc: Global,
-    lock: &HistLock<Cluster<D>>,
-    nodes: u8,
+    lock: &HistLock<Site<D>>,
+    setup: Setup,
     gate: &G,
     halt: &Halt,
-    seat: &mut LaneSeat<Cluster<D>>,
+    seat: &mut LaneSeat<Site<D>>,
     at: At,
     task: &Task,
     copy: Sent,
 ) -> Result<(), NoMemory>
-    requires seat { IsLaneSeat false lock.now at.lane.0 seat.old }
+    requires seat { IsLaneSeat setup.log lock.now at.lane.0 seat.old }
     requires by { IsTakerAt at task.now.by }
-    requires node { IsNode nodes copy.node.0 }
-    ensures { OnOk result (WorksOn lock.now at.lane.0 task.now.by seat.old seat.new) }
+    requires node { IsNode setup.nodes copy.node.0 }
+    ensures { OnOk result (WorksOn setup.log lock.now at.lane.0 task.now.by seat.old seat.new) }
 {
     for _ in rt.forever() {
-        match hand_out(rt, alloc, lock, nodes, seat, at, task, copy)? {
+        match hand_out(rt, alloc, lock, setup, seat, at, task, copy)? {
             Turn::Busy => give_way(halt)?,
             Turn::Done => {
                 halt.stir();
                 return Ok(());
             }
             Turn::Work(file) => {
-                bring_file(rt, alloc, lock, nodes, gate, seat, at, task, copy, &file)?;
+                bring_file(rt, alloc, lock, setup, gate, seat, at, task, copy, &file)?;
             }
         }
     }

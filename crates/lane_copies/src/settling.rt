@@ -1,6 +1,6 @@
 //! Settles: copies to every replica that runs, one after another.
 
-ghost use Rattle.std.specs.Prelude.{◌≡◌, [], false, OnOk, IfOk};
+ghost use Rattle.std.specs.Prelude.{◌≡◌, [], OnOk, IfOk};
 ghost use Rattle.history_rules.specs.Lines.{entries_of_line};
 ghost use Rattle.history_book.specs.Log.{printed};
 ghost use Rattle.script_serving.specs.declared.script.LineCommand.TheVariants.{Settle};
@@ -13,8 +13,8 @@ use crate::jobs::bring_over;
 use cluster_nodes::{CopyTask, SettleTask};
 use disk_model::FaultDir;
 use hist_lock::{HistLock, LaneSeat};
-use lane_sections::{Cluster, Gate, Turn, enter_cluster, give_way};
-use lane_threads::{Halt, leave};
+use lane_sections::{Gate, Site, Turn, enter_site, give_way};
+use lane_threads::{Halt, Setup, leave};
 use nrt_base::{At, NoMemory};
 use std::alloc::Global;
 use std::sync::Wait;
@@ -23,17 +23,17 @@ use std::sync::Wait;
 fn start<R: Wait, D: FaultDir + Drop>(
     rt: &R,
     alloc: Global,
-    lock: &HistLock<Cluster<D>>,
-    nodes: u8,
-    seat: &mut LaneSeat<Cluster<D>>,
+    lock: &HistLock<Site<D>>,
+    setup: Setup,
+    seat: &mut LaneSeat<Site<D>>,
     at: At,
 ) -> Result<Turn<SettleTask>, NoMemory>
-    requires seat { IsLaneSeat false lock.now at.lane.0 seat.old }
+    requires seat { IsLaneSeat setup.log lock.now at.lane.0 seat.old }
     requires fresh { entries_of_line at (printed (log_seen seat.old)) ≡ [] }
-    ensures { IfOk result (TurnsLine (IsSettlingOn nodes at) NeverWaits lock.now Settle at
-        seat.old seat.new) }
+    ensures { IfOk result (TurnsLine setup.log (IsSettlingOn setup.nodes at) NeverWaits
+        lock.now Settle at seat.old seat.new) }
 {
-    let mut held = enter_cluster(rt, lock, nodes, at, seat)?;
+    let mut held = enter_site(rt, lock, setup, at, seat)?;
     let answer = held.value().settle_start(alloc, at);
     leave(lock, at.lane, seat, held);
     answer
@@ -43,19 +43,19 @@ fn start<R: Wait, D: FaultDir + Drop>(
 fn begin<R: Wait, D: FaultDir + Drop>(
     rt: &R,
     alloc: Global,
-    lock: &HistLock<Cluster<D>>,
-    nodes: u8,
-    seat: &mut LaneSeat<Cluster<D>>,
+    lock: &HistLock<Site<D>>,
+    setup: Setup,
+    seat: &mut LaneSeat<Site<D>>,
     at: At,
     left: &mut SettleTask,
 ) -> Result<Turn<CopyTask>, NoMemory>
-    requires seat { IsLaneSeat false lock.now at.lane.0 seat.old }
+    requires seat { IsLaneSeat setup.log lock.now at.lane.0 seat.old }
     requires started { HasBegunToSettle at left.old (log_seen seat.old) }
-    requires settling { IsStillSettling nodes at left.old (log_seen seat.old) }
-    ensures { IfOk result (TurnsLine (BeginsNextJob nodes at left.new)
-        (IsSettlingOn nodes at left.new) lock.now Settle at seat.old seat.new) }
+    requires settling { IsStillSettling setup.nodes at left.old (log_seen seat.old) }
+    ensures { IfOk result (TurnsLine setup.log (BeginsNextJob setup.nodes at left.new)
+        (IsSettlingOn setup.nodes at left.new) lock.now Settle at seat.old seat.new) }
 {
-    let mut held = enter_cluster(rt, lock, nodes, at, seat)?;
+    let mut held = enter_site(rt, lock, setup, at, seat)?;
     let answer = next_job(held.value(), alloc, at, left);
     leave(lock, at.lane, seat, held);
     answer
@@ -65,23 +65,23 @@ fn begin<R: Wait, D: FaultDir + Drop>(
 fn settle_on<R: Wait, D: FaultDir + Drop, G: Gate>(
     rt: &R,
     alloc: Global,
-    lock: &HistLock<Cluster<D>>,
-    nodes: u8,
+    lock: &HistLock<Site<D>>,
+    setup: Setup,
     gate: &G,
     halt: &Halt,
-    seat: &mut LaneSeat<Cluster<D>>,
+    seat: &mut LaneSeat<Site<D>>,
     at: At,
     mut left: SettleTask,
 ) -> Result<(), NoMemory>
-    requires seat { IsLaneSeat false lock.now at.lane.0 seat.old }
-    requires settling { IsSettlingOn nodes at left (log_seen seat.old) }
-    ensures { OnOk result (EndsItsLine false lock.now Settle at seat.old seat.new) }
+    requires seat { IsLaneSeat setup.log lock.now at.lane.0 seat.old }
+    requires settling { IsSettlingOn setup.nodes at left (log_seen seat.old) }
+    ensures { OnOk result (EndsItsLine setup.log lock.now Settle at seat.old seat.new) }
 {
     for _ in rt.forever() {
-        match begin(rt, alloc, lock, nodes, seat, at, &mut left)? {
+        match begin(rt, alloc, lock, setup, seat, at, &mut left)? {
             Turn::Busy => give_way(halt)?,
             Turn::Done => return Ok(()),
-            Turn::Work(task) => bring_over(rt, alloc, lock, nodes, gate, seat, at, &task)?,
+            Turn::Work(task) => bring_over(rt, alloc, lock, setup, gate, seat, at, &task)?,
         }
     }
     unreachable!()
@@ -91,20 +91,20 @@ fn settle_on<R: Wait, D: FaultDir + Drop, G: Gate>(
 pub fn settle<R: Wait, D: FaultDir + Drop, G: Gate>(
     rt: &R,
     alloc: Global,
-    lock: &HistLock<Cluster<D>>,
-    nodes: u8,
+    lock: &HistLock<Site<D>>,
+    setup: Setup,
     gate: &G,
     halt: &Halt,
-    seat: &mut LaneSeat<Cluster<D>>,
+    seat: &mut LaneSeat<Site<D>>,
     at: At,
 ) -> Result<(), NoMemory>
-    requires seat { IsLaneSeat false lock.now at.lane.0 seat.old }
+    requires seat { IsLaneSeat setup.log lock.now at.lane.0 seat.old }
     requires fresh { entries_of_line at (printed (log_seen seat.old)) ≡ [] }
-    ensures { OnOk result (EndsItsLine false lock.now Settle at seat.old seat.new) }
+    ensures { OnOk result (EndsItsLine setup.log lock.now Settle at seat.old seat.new) }
 {
-    match start(rt, alloc, lock, nodes, seat, at)? {
+    match start(rt, alloc, lock, setup, seat, at)? {
         Turn::Busy => unreachable!(),
         Turn::Done => Ok(()),
-        Turn::Work(left) => settle_on(rt, alloc, lock, nodes, gate, halt, seat, at, left),
+        Turn::Work(left) => settle_on(rt, alloc, lock, setup, gate, halt, seat, at, left),
     }
 }

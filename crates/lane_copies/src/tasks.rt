@@ -10,8 +10,8 @@ use crate::precopying::copy_over;
 use disk_model::FaultDir;
 use hist_lock::{HistLock, LaneSeat};
 use history_facts::is_node;
-use lane_sections::{Cluster, Gate, Place, Turn, enter_cluster, give_way};
-use lane_threads::{Halt, Lane, leave};
+use lane_sections::{Gate, Place, Site, Turn, enter_site, give_way};
+use lane_threads::{Halt, Lane, Setup, leave};
 use merge_tasks::{Sent, Task, TaskKind};
 use nrt_base::{At, LineNo, NoMemory};
 use seg_merge::{MergeTask, Merged, merge};
@@ -21,17 +21,17 @@ use std::sync::Wait;
 // Takes the task that was posted first, for a drain line or for none.
 fn take<R: Wait, D: FaultDir + Drop>(
     rt: &R,
-    lock: &HistLock<Cluster<D>>,
-    nodes: u8,
-    seat: &mut LaneSeat<Cluster<D>>,
+    lock: &HistLock<Site<D>>,
+    setup: Setup,
+    seat: &mut LaneSeat<Site<D>>,
     at: At,
     by: Option<At>,
 ) -> Result<Option<Task>, NoMemory>
-    requires seat { IsLaneSeat false lock.now at.lane.0 seat.old }
+    requires seat { IsLaneSeat setup.log lock.now at.lane.0 seat.old }
     requires by { IsTakerAt at by }
-    ensures { IfOk result (TakesOn lock.now at.lane.0 by seat.old seat.new) }
+    ensures { IfOk result (TakesOn setup.log lock.now at.lane.0 by seat.old seat.new) }
 {
-    let mut held = enter_cluster(rt, lock, nodes, at, seat)?;
+    let mut held = enter_site(rt, lock, setup, at, seat)?;
     let answer = held.value().task_take(by);
     leave(lock, at.lane, seat, held);
     answer
@@ -41,19 +41,19 @@ fn take<R: Wait, D: FaultDir + Drop>(
 fn bring_merged<R: Wait, D: FaultDir + Drop>(
     rt: &R,
     alloc: Global,
-    lock: &HistLock<Cluster<D>>,
-    nodes: u8,
-    seat: &mut LaneSeat<Cluster<D>>,
+    lock: &HistLock<Site<D>>,
+    setup: Setup,
+    seat: &mut LaneSeat<Site<D>>,
     at: At,
     task: &Task,
     merged: Merged,
 ) -> Result<(), NoMemory>
-    requires seat { IsLaneSeat false lock.now at.lane.0 seat.old }
+    requires seat { IsLaneSeat setup.log lock.now at.lane.0 seat.old }
     requires by { IsTakerAt at task.now.by }
     requires merged { IsMergedOut (log_seen seat.old) task.now.seg merged }
-    ensures { OnOk result (WorksOn lock.now at.lane.0 task.now.by seat.old seat.new) }
+    ensures { OnOk result (WorksOn setup.log lock.now at.lane.0 task.now.by seat.old seat.new) }
 {
-    let mut held = enter_cluster(rt, lock, nodes, at, seat)?;
+    let mut held = enter_site(rt, lock, setup, at, seat)?;
     let answer = held.value().merge_ready(alloc, task, merged);
     leave(lock, at.lane, seat, held);
     answer
@@ -63,23 +63,23 @@ fn bring_merged<R: Wait, D: FaultDir + Drop>(
 fn build<R: Wait, D: FaultDir + Drop, G: Gate>(
     rt: &R,
     alloc: Global,
-    lock: &HistLock<Cluster<D>>,
-    nodes: u8,
+    lock: &HistLock<Site<D>>,
+    setup: Setup,
     gate: &G,
     halt: &Halt,
-    seat: &mut LaneSeat<Cluster<D>>,
+    seat: &mut LaneSeat<Site<D>>,
     at: At,
     task: &Task,
     work: &MergeTask,
 ) -> Result<(), NoMemory>
-    requires seat { IsLaneSeat false lock.now at.lane.0 seat.old }
+    requires seat { IsLaneSeat setup.log lock.now at.lane.0 seat.old }
     requires by { IsTakerAt at task.now.by }
     requires work { IsMergeIn work.now task.now.seg (log_seen seat.old) }
-    ensures { OnOk result (WorksOn lock.now at.lane.0 task.now.by seat.old seat.new) }
+    ensures { OnOk result (WorksOn setup.log lock.now at.lane.0 task.now.by seat.old seat.new) }
 {
     gate.pass(Place::Merge(task.line));
     let merged = merge(alloc, work)?;
-    let answer = bring_merged(rt, alloc, lock, nodes, seat, at, task, merged);
+    let answer = bring_merged(rt, alloc, lock, setup, seat, at, task, merged);
     halt.stir();
     answer
 }
@@ -88,17 +88,17 @@ fn build<R: Wait, D: FaultDir + Drop, G: Gate>(
 fn cut<R: Wait, D: FaultDir + Drop>(
     rt: &R,
     alloc: Global,
-    lock: &HistLock<Cluster<D>>,
-    nodes: u8,
-    seat: &mut LaneSeat<Cluster<D>>,
+    lock: &HistLock<Site<D>>,
+    setup: Setup,
+    seat: &mut LaneSeat<Site<D>>,
     at: At,
     task: &Task,
 ) -> Result<Turn<()>, NoMemory>
-    requires seat { IsLaneSeat false lock.now at.lane.0 seat.old }
+    requires seat { IsLaneSeat setup.log lock.now at.lane.0 seat.old }
     requires by { IsTakerAt at task.now.by }
-    ensures { OnOk result (WorksOn lock.now at.lane.0 task.now.by seat.old seat.new) }
+    ensures { OnOk result (WorksOn setup.log lock.now at.lane.0 task.now.by seat.old seat.new) }
 {
-    let mut held = enter_cluster(rt, lock, nodes, at, seat)?;
+    let mut held = enter_site(rt, lock, setup, at, seat)?;
     let answer = held.value().merge_cut(alloc, task);
     leave(lock, at.lane, seat, held);
     answer
@@ -108,19 +108,19 @@ fn cut<R: Wait, D: FaultDir + Drop>(
 fn cut_over<R: Wait, D: FaultDir + Drop>(
     rt: &R,
     alloc: Global,
-    lock: &HistLock<Cluster<D>>,
-    nodes: u8,
+    lock: &HistLock<Site<D>>,
+    setup: Setup,
     halt: &Halt,
-    seat: &mut LaneSeat<Cluster<D>>,
+    seat: &mut LaneSeat<Site<D>>,
     at: At,
     task: &Task,
 ) -> Result<(), NoMemory>
-    requires seat { IsLaneSeat false lock.now at.lane.0 seat.old }
+    requires seat { IsLaneSeat setup.log lock.now at.lane.0 seat.old }
     requires by { IsTakerAt at task.now.by }
-    ensures { OnOk result (WorksOn lock.now at.lane.0 task.now.by seat.old seat.new) }
+    ensures { OnOk result (WorksOn setup.log lock.now at.lane.0 task.now.by seat.old seat.new) }
 {
     for _ in rt.forever() {
-        match cut(rt, alloc, lock, nodes, seat, at, task)? {
+        match cut(rt, alloc, lock, setup, seat, at, task)? {
             Turn::Busy => give_way(halt)?,
             Turn::Done => return Ok(()),
             Turn::Work(()) => return Ok(()),
@@ -133,32 +133,32 @@ fn cut_over<R: Wait, D: FaultDir + Drop>(
 fn do_task<R: Wait, D: FaultDir + Drop, G: Gate>(
     rt: &R,
     alloc: Global,
-    lock: &HistLock<Cluster<D>>,
-    nodes: u8,
+    lock: &HistLock<Site<D>>,
+    setup: Setup,
     gate: &G,
     halt: &Halt,
-    seat: &mut LaneSeat<Cluster<D>>,
+    seat: &mut LaneSeat<Site<D>>,
     at: At,
     task: &Task,
 ) -> Result<(), NoMemory>
-    requires seat { IsLaneSeat false lock.now at.lane.0 seat.old }
+    requires seat { IsLaneSeat setup.log lock.now at.lane.0 seat.old }
     requires by { IsTakerAt at task.now.by }
     requires task { IsTaskIn task.now (log_seen seat.old) }
-    ensures { OnOk result (WorksOn lock.now at.lane.0 task.now.by seat.old seat.new) }
+    ensures { OnOk result (WorksOn setup.log lock.now at.lane.0 task.now.by seat.old seat.new) }
 {
     match &task.kind {
-        TaskKind::Merge(work) => { build(rt, alloc, lock, nodes, gate, halt, seat, at, task, work) }
+        TaskKind::Merge(work) => { build(rt, alloc, lock, setup, gate, halt, seat, at, task, work) }
         TaskKind::PreCopy(n, job) => {
-            if !is_node(nodes, *n) {
+            if !is_node(setup.nodes, *n) {
                 return Err(AllocError);
             }
             let copy = Sent {
                 node: *n,
                 job: *job,
             };
-            copy_over(rt, alloc, lock, nodes, gate, halt, seat, at, task, copy)
+            copy_over(rt, alloc, lock, setup, gate, halt, seat, at, task, copy)
         }
-        TaskKind::Cut => cut_over(rt, alloc, lock, nodes, halt, seat, at, task),
+        TaskKind::Cut => cut_over(rt, alloc, lock, setup, halt, seat, at, task),
     }
 }
 
@@ -167,22 +167,22 @@ fn do_task<R: Wait, D: FaultDir + Drop, G: Gate>(
 pub fn do_first<R: Wait, D: FaultDir + Drop, G: Gate>(
     rt: &R,
     alloc: Global,
-    lock: &HistLock<Cluster<D>>,
-    nodes: u8,
+    lock: &HistLock<Site<D>>,
+    setup: Setup,
     gate: &G,
     halt: &Halt,
-    seat: &mut LaneSeat<Cluster<D>>,
+    seat: &mut LaneSeat<Site<D>>,
     at: At,
     by: Option<At>,
 ) -> Result<bool, NoMemory>
-    requires seat { IsLaneSeat false lock.now at.lane.0 seat.old }
+    requires seat { IsLaneSeat setup.log lock.now at.lane.0 seat.old }
     requires by { IsTakerAt at by }
-    ensures { OnOk result (WorksOn lock.now at.lane.0 by seat.old seat.new) }
+    ensures { OnOk result (WorksOn setup.log lock.now at.lane.0 by seat.old seat.new) }
 {
-    match take(rt, lock, nodes, seat, at, by)? {
+    match take(rt, lock, setup, seat, at, by)? {
         None => Ok(false),
         Some(task) => {
-            do_task(rt, alloc, lock, nodes, gate, halt, seat, at, &task)?;
+            do_task(rt, alloc, lock, setup, gate, halt, seat, at, &task)?;
             Ok(true)
         }
     }
@@ -192,19 +192,19 @@ pub fn do_first<R: Wait, D: FaultDir + Drop, G: Gate>(
 pub fn do_posted<R: Wait, D: FaultDir + Drop, G: Gate>(
     rt: &R,
     alloc: Global,
-    lock: &HistLock<Cluster<D>>,
-    nodes: u8,
+    lock: &HistLock<Site<D>>,
+    setup: Setup,
     gate: &G,
     halt: &Halt,
-    lane: &mut Lane<Cluster<D>>,
+    lane: &mut Lane<Site<D>>,
 ) -> Result<bool, NoMemory>
-    requires { IsIdleLane false lock.now lane.old }
+    requires { IsIdleLane setup.log lock.now lane.old }
     ensures number { lane.new.number ≡ lane.old.number }
-    ensures heard { OnOk result (HasHeard false lock.now lane.old lane.new) }
+    ensures heard { OnOk result (HasHeard setup.log lock.now lane.old lane.new) }
 {
     let at = At {
         lane: lane.number,
         line: LineNo(0),
     };
-    do_first(rt, alloc, lock, nodes, gate, halt, &mut lane.seat, at, None)
+    do_first(rt, alloc, lock, setup, gate, halt, &mut lane.seat, at, None)
 }

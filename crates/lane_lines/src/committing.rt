@@ -1,6 +1,6 @@
 //! Commits. Each disk call is a section of its own.
 
-ghost use Rattle.std.specs.Prelude.{◌≡◌, [], false, OnOk, IfOk};
+ghost use Rattle.std.specs.Prelude.{◌≡◌, [], OnOk, IfOk};
 ghost use Rattle.history_rules.specs.Nodes.{IsNode};
 ghost use Rattle.history_rules.specs.Lines.{entries_of_line};
 ghost use Rattle.history_book.specs.Log.{printed};
@@ -12,8 +12,8 @@ ghost use Rattle.lane_lines.specs.Commits.{HasBegunCommit, IsCommitting};
 use cluster_nodes::CommitTask;
 use disk_model::FaultDir;
 use hist_lock::{HistLock, LaneSeat};
-use lane_sections::{Cluster, Turn, enter_cluster, give_way};
-use lane_threads::{Halt, leave};
+use lane_sections::{Site, Turn, enter_site, give_way};
+use lane_threads::{Halt, Setup, leave};
 use nrt_base::{At, NoMemory, NodeNo};
 use std::alloc::Global;
 use std::sync::Wait;
@@ -22,19 +22,19 @@ use std::sync::Wait;
 fn start<R: Wait, D: FaultDir + Drop>(
     rt: &R,
     alloc: Global,
-    lock: &HistLock<Cluster<D>>,
-    nodes: u8,
-    seat: &mut LaneSeat<Cluster<D>>,
+    lock: &HistLock<Site<D>>,
+    setup: Setup,
+    seat: &mut LaneSeat<Site<D>>,
     at: At,
     n: NodeNo,
 ) -> Result<Turn<CommitTask>, NoMemory>
-    requires seat { IsLaneSeat false lock.now at.lane.0 seat.old }
+    requires seat { IsLaneSeat setup.log lock.now at.lane.0 seat.old }
     requires fresh { entries_of_line at (printed (log_seen seat.old)) ≡ [] }
-    requires node { IsNode nodes n.0 }
-    ensures { IfOk result (TurnsLine (IsCommitting at n) (IsUnbegunIn at) lock.now (Commit n) at
-        seat.old seat.new) }
+    requires node { IsNode setup.nodes n.0 }
+    ensures { IfOk result (TurnsLine setup.log (IsCommitting at n) (IsUnbegunIn at)
+        lock.now (Commit n) at seat.old seat.new) }
 {
-    let mut held = enter_cluster(rt, lock, nodes, at, seat)?;
+    let mut held = enter_site(rt, lock, setup, at, seat)?;
     let answer = held.value().commit_start(alloc, at, n);
     leave(lock, at.lane, seat, held);
     answer
@@ -44,18 +44,18 @@ fn start<R: Wait, D: FaultDir + Drop>(
 fn step<R: Wait, D: FaultDir + Drop>(
     rt: &R,
     alloc: Global,
-    lock: &HistLock<Cluster<D>>,
-    nodes: u8,
-    seat: &mut LaneSeat<Cluster<D>>,
+    lock: &HistLock<Site<D>>,
+    setup: Setup,
+    seat: &mut LaneSeat<Site<D>>,
     at: At,
     task: &CommitTask,
 ) -> Result<Turn<()>, NoMemory>
-    requires seat { IsLaneSeat false lock.now at.lane.0 seat.old }
+    requires seat { IsLaneSeat setup.log lock.now at.lane.0 seat.old }
     requires begun { HasBegunCommit at task.now (log_seen seat.old) }
-    ensures { IfOk result (TurnsLine (λ made. HasBegunCommit at task.now) NeverWaits lock.now
-        (Commit task.now.node) at seat.old seat.new) }
+    ensures { IfOk result (TurnsLine setup.log (λ made. HasBegunCommit at task.now) NeverWaits
+        lock.now (Commit task.now.node) at seat.old seat.new) }
 {
-    let mut held = enter_cluster(rt, lock, nodes, at, seat)?;
+    let mut held = enter_site(rt, lock, setup, at, seat)?;
     let answer = held.value().commit_step(alloc, at, task);
     leave(lock, at.lane, seat, held);
     answer
@@ -65,19 +65,19 @@ fn step<R: Wait, D: FaultDir + Drop>(
 fn finish<R: Wait, D: FaultDir + Drop>(
     rt: &R,
     alloc: Global,
-    lock: &HistLock<Cluster<D>>,
-    nodes: u8,
-    seat: &mut LaneSeat<Cluster<D>>,
+    lock: &HistLock<Site<D>>,
+    setup: Setup,
+    seat: &mut LaneSeat<Site<D>>,
     at: At,
     task: &CommitTask,
 ) -> Result<(), NoMemory>
-    requires seat { IsLaneSeat false lock.now at.lane.0 seat.old }
+    requires seat { IsLaneSeat setup.log lock.now at.lane.0 seat.old }
     requires begun { HasBegunCommit at task.now (log_seen seat.old) }
-    ensures { OnOk result (EndsItsLine false lock.now (Commit task.now.node) at
+    ensures { OnOk result (EndsItsLine setup.log lock.now (Commit task.now.node) at
         seat.old seat.new) }
 {
     for _ in rt.forever() {
-        match step(rt, alloc, lock, nodes, seat, at, task)? {
+        match step(rt, alloc, lock, setup, seat, at, task)? {
             Turn::Busy => unreachable!(),
             Turn::Done => return Ok(()),
             Turn::Work(()) => {}
@@ -90,23 +90,23 @@ fn finish<R: Wait, D: FaultDir + Drop>(
 pub fn commit<R: Wait, D: FaultDir + Drop>(
     rt: &R,
     alloc: Global,
-    lock: &HistLock<Cluster<D>>,
-    nodes: u8,
+    lock: &HistLock<Site<D>>,
+    setup: Setup,
     halt: &Halt,
-    seat: &mut LaneSeat<Cluster<D>>,
+    seat: &mut LaneSeat<Site<D>>,
     at: At,
     n: NodeNo,
 ) -> Result<(), NoMemory>
-    requires seat { IsLaneSeat false lock.now at.lane.0 seat.old }
+    requires seat { IsLaneSeat setup.log lock.now at.lane.0 seat.old }
     requires fresh { entries_of_line at (printed (log_seen seat.old)) ≡ [] }
-    requires node { IsNode nodes n.0 }
-    ensures { OnOk result (EndsItsLine false lock.now (Commit n) at seat.old seat.new) }
+    requires node { IsNode setup.nodes n.0 }
+    ensures { OnOk result (EndsItsLine setup.log lock.now (Commit n) at seat.old seat.new) }
 {
     for _ in rt.forever() {
-        match start(rt, alloc, lock, nodes, seat, at, n)? {
+        match start(rt, alloc, lock, setup, seat, at, n)? {
             Turn::Busy => give_way(halt)?,
             Turn::Done => return Ok(()),
-            Turn::Work(task) => return finish(rt, alloc, lock, nodes, seat, at, &task),
+            Turn::Work(task) => return finish(rt, alloc, lock, setup, seat, at, &task),
         }
     }
     unreachable!()

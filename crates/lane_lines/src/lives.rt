@@ -1,6 +1,6 @@
 //! Crashes, reopenings and promotions.
 
-ghost use Rattle.std.specs.Prelude.{◌≡◌, [], false, OnOk};
+ghost use Rattle.std.specs.Prelude.{◌≡◌, [], OnOk};
 ghost use Rattle.history_rules.specs.Nodes.{IsNode};
 ghost use Rattle.history_rules.specs.Lines.{entries_of_line};
 ghost use Rattle.history_book.specs.Log.{printed};
@@ -9,8 +9,8 @@ ghost use Rattle.lane_threads.specs.Seats.{log_seen, IsLaneSeat, EndsItsLine};
 
 use disk_model::FaultDir;
 use hist_lock::{HistLock, LaneSeat};
-use lane_sections::{Cluster, enter_cluster};
-use lane_threads::leave;
+use lane_sections::{Site, enter_site};
+use lane_threads::{Setup, leave};
 use nrt_base::{At, NoMemory, NodeNo};
 use script_serving::Force;
 use std::alloc::Global;
@@ -20,19 +20,19 @@ use std::sync::Wait;
 pub fn crash<R: Wait, D: FaultDir + Drop>(
     rt: &R,
     alloc: Global,
-    lock: &HistLock<Cluster<D>>,
-    nodes: u8,
-    seat: &mut LaneSeat<Cluster<D>>,
+    lock: &HistLock<Site<D>>,
+    setup: Setup,
+    seat: &mut LaneSeat<Site<D>>,
     at: At,
     n: NodeNo,
     pick: u64,
 ) -> Result<(), NoMemory>
-    requires seat { IsLaneSeat false lock.now at.lane.0 seat.old }
+    requires seat { IsLaneSeat setup.log lock.now at.lane.0 seat.old }
     requires fresh { entries_of_line at (printed (log_seen seat.old)) ≡ [] }
-    requires node { IsNode nodes n.0 }
-    ensures { OnOk result (EndsItsLine false lock.now (Crash n pick) at seat.old seat.new) }
+    requires node { IsNode setup.nodes n.0 }
+    ensures { OnOk result (EndsItsLine setup.log lock.now (Crash n pick) at seat.old seat.new) }
 {
-    let mut held = enter_cluster(rt, lock, nodes, at, seat)?;
+    let mut held = enter_site(rt, lock, setup, at, seat)?;
     let answer = held.value().crash(alloc, at, n, pick);
     leave(lock, at.lane, seat, held);
     answer
@@ -42,18 +42,18 @@ pub fn crash<R: Wait, D: FaultDir + Drop>(
 pub fn reopen<R: Wait, D: FaultDir + Drop>(
     rt: &R,
     alloc: Global,
-    lock: &HistLock<Cluster<D>>,
-    nodes: u8,
-    seat: &mut LaneSeat<Cluster<D>>,
+    lock: &HistLock<Site<D>>,
+    setup: Setup,
+    seat: &mut LaneSeat<Site<D>>,
     at: At,
     n: NodeNo,
 ) -> Result<(), NoMemory>
-    requires seat { IsLaneSeat false lock.now at.lane.0 seat.old }
+    requires seat { IsLaneSeat setup.log lock.now at.lane.0 seat.old }
     requires fresh { entries_of_line at (printed (log_seen seat.old)) ≡ [] }
-    requires node { IsNode nodes n.0 }
-    ensures { OnOk result (EndsItsLine false lock.now (Reopen n) at seat.old seat.new) }
+    requires node { IsNode setup.nodes n.0 }
+    ensures { OnOk result (EndsItsLine setup.log lock.now (Reopen n) at seat.old seat.new) }
 {
-    let mut held = enter_cluster(rt, lock, nodes, at, seat)?;
+    let mut held = enter_site(rt, lock, setup, at, seat)?;
     let answer = held.value().reopen(alloc, at, n);
     leave(lock, at.lane, seat, held);
     answer
@@ -63,19 +63,19 @@ pub fn reopen<R: Wait, D: FaultDir + Drop>(
 pub fn promote<R: Wait, D: FaultDir + Drop>(
     rt: &R,
     alloc: Global,
-    lock: &HistLock<Cluster<D>>,
-    nodes: u8,
-    seat: &mut LaneSeat<Cluster<D>>,
+    lock: &HistLock<Site<D>>,
+    setup: Setup,
+    seat: &mut LaneSeat<Site<D>>,
     at: At,
     n: NodeNo,
     force: Force,
 ) -> Result<(), NoMemory>
-    requires seat { IsLaneSeat false lock.now at.lane.0 seat.old }
+    requires seat { IsLaneSeat setup.log lock.now at.lane.0 seat.old }
     requires fresh { entries_of_line at (printed (log_seen seat.old)) ≡ [] }
-    requires node { IsNode nodes n.0 }
-    ensures { OnOk result (EndsItsLine false lock.now (Promote n force) at seat.old seat.new) }
+    requires node { IsNode setup.nodes n.0 }
+    ensures { OnOk result (EndsItsLine setup.log lock.now (Promote n force) at seat.old seat.new) }
 {
-    let mut held = enter_cluster(rt, lock, nodes, at, seat)?;
+    let mut held = enter_site(rt, lock, setup, at, seat)?;
     let answer = held.value().promote(alloc, at, n, force);
     leave(lock, at.lane, seat, held);
     answer

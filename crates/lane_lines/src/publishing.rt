@@ -1,6 +1,6 @@
 //! Publishes. Segments are built outside the lock.
 
-ghost use Rattle.std.specs.Prelude.{◌≡◌, [], false, Some, OnOk, IfOk};
+ghost use Rattle.std.specs.Prelude.{◌≡◌, [], Some, OnOk, IfOk};
 ghost use Rattle.history_rules.specs.declared.entry.Event.{Event};
 ghost use Rattle.history_rules.specs.Lines.{entries_of_line, last_of_line};
 ghost use Rattle.history_book.specs.Log.{printed};
@@ -12,8 +12,8 @@ ghost use Rattle.lane_lines.specs.Flushes.{IsFlushing};
 
 use disk_model::FaultDir;
 use hist_lock::{HistLock, LaneSeat};
-use lane_sections::{Cluster, Gate, Place, Turn, enter_cluster, give_way};
-use lane_threads::{Halt, leave};
+use lane_sections::{Gate, Place, Site, Turn, enter_site, give_way};
+use lane_threads::{Halt, Setup, leave};
 use nrt_base::{At, NoMemory};
 use segment_steps::{FlushTask, FlushWork, flush};
 use std::alloc::Global;
@@ -23,17 +23,17 @@ use std::sync::Wait;
 fn start<R: Wait, D: FaultDir + Drop>(
     rt: &R,
     alloc: Global,
-    lock: &HistLock<Cluster<D>>,
-    nodes: u8,
-    seat: &mut LaneSeat<Cluster<D>>,
+    lock: &HistLock<Site<D>>,
+    setup: Setup,
+    seat: &mut LaneSeat<Site<D>>,
     at: At,
 ) -> Result<Turn<FlushTask>, NoMemory>
-    requires seat { IsLaneSeat false lock.now at.lane.0 seat.old }
+    requires seat { IsLaneSeat setup.log lock.now at.lane.0 seat.old }
     requires fresh { entries_of_line at (printed (log_seen seat.old)) ≡ [] }
-    ensures { IfOk result (TurnsLine (IsFlushing at) (IsUnbegunIn at) lock.now Publish at
+    ensures { IfOk result (TurnsLine setup.log (IsFlushing at) (IsUnbegunIn at) lock.now Publish at
         seat.old seat.new) }
 {
-    let mut held = enter_cluster(rt, lock, nodes, at, seat)?;
+    let mut held = enter_site(rt, lock, setup, at, seat)?;
     let answer = held.value().publish_start(alloc, at);
     leave(lock, at.lane, seat, held);
     answer
@@ -43,18 +43,18 @@ fn start<R: Wait, D: FaultDir + Drop>(
 fn end<R: Wait, D: FaultDir + Drop>(
     rt: &R,
     alloc: Global,
-    lock: &HistLock<Cluster<D>>,
-    nodes: u8,
-    seat: &mut LaneSeat<Cluster<D>>,
+    lock: &HistLock<Site<D>>,
+    setup: Setup,
+    seat: &mut LaneSeat<Site<D>>,
     at: At,
     work: FlushWork,
 ) -> Result<(), NoMemory>
-    requires seat { IsLaneSeat false lock.now at.lane.0 seat.old }
+    requires seat { IsLaneSeat setup.log lock.now at.lane.0 seat.old }
     requires started { last_of_line at (printed (log_seen seat.old)) ≡ Some Event.Publishing }
     requires work { IsFlushed at (log_seen seat.old) work }
-    ensures { OnOk result (EndsItsLine false lock.now Publish at seat.old seat.new) }
+    ensures { OnOk result (EndsItsLine setup.log lock.now Publish at seat.old seat.new) }
 {
-    let mut held = enter_cluster(rt, lock, nodes, at, seat)?;
+    let mut held = enter_site(rt, lock, setup, at, seat)?;
     let answer = held.value().publish_end(alloc, at, work);
     leave(lock, at.lane, seat, held);
     answer
@@ -64,42 +64,42 @@ fn end<R: Wait, D: FaultDir + Drop>(
 fn build<R: Wait, D: FaultDir + Drop, G: Gate>(
     rt: &R,
     alloc: Global,
-    lock: &HistLock<Cluster<D>>,
-    nodes: u8,
+    lock: &HistLock<Site<D>>,
+    setup: Setup,
     gate: &G,
-    seat: &mut LaneSeat<Cluster<D>>,
+    seat: &mut LaneSeat<Site<D>>,
     at: At,
     task: &FlushTask,
 ) -> Result<(), NoMemory>
-    requires seat { IsLaneSeat false lock.now at.lane.0 seat.old }
+    requires seat { IsLaneSeat setup.log lock.now at.lane.0 seat.old }
     requires flushing { IsFlushing at task.now (log_seen seat.old) }
-    ensures { OnOk result (EndsItsLine false lock.now Publish at seat.old seat.new) }
+    ensures { OnOk result (EndsItsLine setup.log lock.now Publish at seat.old seat.new) }
 {
     gate.pass(Place::Build(at.line));
     let work = flush(alloc, task)?;
-    end(rt, alloc, lock, nodes, seat, at, work)
+    end(rt, alloc, lock, setup, seat, at, work)
 }
 
 /// Publishes. While another line's publish is in flight the line waits.
 pub fn publish<R: Wait, D: FaultDir + Drop, G: Gate>(
     rt: &R,
     alloc: Global,
-    lock: &HistLock<Cluster<D>>,
-    nodes: u8,
+    lock: &HistLock<Site<D>>,
+    setup: Setup,
     gate: &G,
     halt: &Halt,
-    seat: &mut LaneSeat<Cluster<D>>,
+    seat: &mut LaneSeat<Site<D>>,
     at: At,
 ) -> Result<(), NoMemory>
-    requires seat { IsLaneSeat false lock.now at.lane.0 seat.old }
+    requires seat { IsLaneSeat setup.log lock.now at.lane.0 seat.old }
     requires fresh { entries_of_line at (printed (log_seen seat.old)) ≡ [] }
-    ensures { OnOk result (EndsItsLine false lock.now Publish at seat.old seat.new) }
+    ensures { OnOk result (EndsItsLine setup.log lock.now Publish at seat.old seat.new) }
 {
     for _ in rt.forever() {
-        match start(rt, alloc, lock, nodes, seat, at)? {
+        match start(rt, alloc, lock, setup, seat, at)? {
             Turn::Busy => give_way(halt)?,
             Turn::Done => return Ok(()),
-            Turn::Work(task) => return build(rt, alloc, lock, nodes, gate, seat, at, &task),
+            Turn::Work(task) => return build(rt, alloc, lock, setup, gate, seat, at, &task),
         }
     }
     unreachable!()

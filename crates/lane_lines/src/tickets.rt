@@ -1,6 +1,6 @@
 //! Tickets, and lists of files.
 
-ghost use Rattle.std.specs.Prelude.{◌≡◌, ◌≢◌, [], false, OnOk};
+ghost use Rattle.std.specs.Prelude.{◌≡◌, ◌≢◌, [], OnOk};
 ghost use Rattle.history_rules.specs.Nodes.{IsNode};
 ghost use Rattle.history_rules.specs.Lines.{entries_of_line};
 ghost use Rattle.history_book.specs.Log.{printed};
@@ -9,8 +9,8 @@ ghost use Rattle.lane_threads.specs.Seats.{log_seen, IsLaneSeat, EndsItsLine};
 
 use disk_model::FaultDir;
 use hist_lock::{HistLock, LaneSeat};
-use lane_sections::{Cluster, enter_cluster};
-use lane_threads::leave;
+use lane_sections::{Site, enter_site};
+use lane_threads::{Setup, leave};
 use nrt_base::{At, NoMemory, NodeNo, TicketNo};
 use std::alloc::Global;
 use std::sync::Wait;
@@ -19,20 +19,20 @@ use std::sync::Wait;
 pub fn open<R: Wait, D: FaultDir + Drop>(
     rt: &R,
     alloc: Global,
-    lock: &HistLock<Cluster<D>>,
-    nodes: u8,
-    seat: &mut LaneSeat<Cluster<D>>,
+    lock: &HistLock<Site<D>>,
+    setup: Setup,
+    seat: &mut LaneSeat<Site<D>>,
     at: At,
     n: NodeNo,
     t: TicketNo,
 ) -> Result<(), NoMemory>
-    requires seat { IsLaneSeat false lock.now at.lane.0 seat.old }
+    requires seat { IsLaneSeat setup.log lock.now at.lane.0 seat.old }
     requires fresh { entries_of_line at (printed (log_seen seat.old)) ≡ [] }
-    requires node { IsNode nodes n.0 }
+    requires node { IsNode setup.nodes n.0 }
     requires number { t.0 ≢ 0 }
-    ensures { OnOk result (EndsItsLine false lock.now (Open n t) at seat.old seat.new) }
+    ensures { OnOk result (EndsItsLine setup.log lock.now (Open n t) at seat.old seat.new) }
 {
-    let mut held = enter_cluster(rt, lock, nodes, at, seat)?;
+    let mut held = enter_site(rt, lock, setup, at, seat)?;
     let answer = held.value().ticket_open(alloc, at, n, t);
     leave(lock, at.lane, seat, held);
     answer
@@ -41,17 +41,17 @@ pub fn open<R: Wait, D: FaultDir + Drop>(
 /// Closes a ticket.
 pub fn close<R: Wait, D: FaultDir + Drop>(
     rt: &R,
-    lock: &HistLock<Cluster<D>>,
-    nodes: u8,
-    seat: &mut LaneSeat<Cluster<D>>,
+    lock: &HistLock<Site<D>>,
+    setup: Setup,
+    seat: &mut LaneSeat<Site<D>>,
     at: At,
     t: TicketNo,
 ) -> Result<(), NoMemory>
-    requires seat { IsLaneSeat false lock.now at.lane.0 seat.old }
+    requires seat { IsLaneSeat setup.log lock.now at.lane.0 seat.old }
     requires fresh { entries_of_line at (printed (log_seen seat.old)) ≡ [] }
-    ensures { OnOk result (EndsItsLine false lock.now (Close t) at seat.old seat.new) }
+    ensures { OnOk result (EndsItsLine setup.log lock.now (Close t) at seat.old seat.new) }
 {
-    let mut held = enter_cluster(rt, lock, nodes, at, seat)?;
+    let mut held = enter_site(rt, lock, setup, at, seat)?;
     let answer = held.value().ticket_close(at, t);
     leave(lock, at.lane, seat, held);
     answer
@@ -61,18 +61,18 @@ pub fn close<R: Wait, D: FaultDir + Drop>(
 pub fn list_files<R: Wait, D: FaultDir + Drop>(
     rt: &R,
     alloc: Global,
-    lock: &HistLock<Cluster<D>>,
-    nodes: u8,
-    seat: &mut LaneSeat<Cluster<D>>,
+    lock: &HistLock<Site<D>>,
+    setup: Setup,
+    seat: &mut LaneSeat<Site<D>>,
     at: At,
     n: NodeNo,
 ) -> Result<(), NoMemory>
-    requires seat { IsLaneSeat false lock.now at.lane.0 seat.old }
+    requires seat { IsLaneSeat setup.log lock.now at.lane.0 seat.old }
     requires fresh { entries_of_line at (printed (log_seen seat.old)) ≡ [] }
-    requires node { IsNode nodes n.0 }
-    ensures { OnOk result (EndsItsLine false lock.now (Files n) at seat.old seat.new) }
+    requires node { IsNode setup.nodes n.0 }
+    ensures { OnOk result (EndsItsLine setup.log lock.now (Files n) at seat.old seat.new) }
 {
-    let mut held = enter_cluster(rt, lock, nodes, at, seat)?;
+    let mut held = enter_site(rt, lock, setup, at, seat)?;
     let answer = held.value().files(alloc, at, n);
     leave(lock, at.lane, seat, held);
     answer

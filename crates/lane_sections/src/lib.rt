@@ -6,7 +6,7 @@ mod gate;
 mod section;
 mod waiting;
 
-pub use cluster_core::{Cluster, Turn};
+pub use cluster_site::{Cluster, Site, Turn};
 pub use gate::{Gate, Place};
-pub use section::enter_cluster;
+pub use section::enter_site;
 pub use waiting::give_way;
