@@ -8,7 +8,7 @@ use crate::line::do_line;
 use disk_model::FaultDir;
 use hist_lock::{HistLock, LaneSeat};
 use lane_copies::do_posted;
-use lane_sections::{Gate, Site};
+use lane_sections::{Gate, Lanes, Site};
 use lane_threads::{Halt, Lane, RunsLines, Setup};
 use nrt_base::NoMemory;
 use script_serving::Line;
@@ -36,9 +36,15 @@ impl<'g, D: FaultDir + Drop, G: Gate> RunsLines<Site<D>> for ClusterLines<'g, G>
         seat: &mut LaneSeat<Site<D>>,
         line: &Line,
     ) -> Result<(), NoMemory> {
-        do_line(
-            rt, self.alloc, lock, self.setup, self.gate, halt, seat, line,
-        )
+        let lanes = Lanes {
+            rt,
+            alloc: self.alloc,
+            lock,
+            setup: self.setup,
+            gate: self.gate,
+            halt,
+        };
+        do_line(&lanes, seat, line)
     }
 
     fn do_task<R: Wait>(
@@ -48,6 +54,14 @@ impl<'g, D: FaultDir + Drop, G: Gate> RunsLines<Site<D>> for ClusterLines<'g, G>
         halt: &Halt,
         lane: &mut Lane<Site<D>>,
     ) -> Result<bool, NoMemory> {
-        do_posted(rt, self.alloc, lock, self.setup, self.gate, halt, lane)
+        let lanes = Lanes {
+            rt,
+            alloc: self.alloc,
+            lock,
+            setup: self.setup,
+            gate: self.gate,
+            halt,
+        };
+        do_posted(&lanes, lane)
     }
 }

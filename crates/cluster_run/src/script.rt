@@ -77,6 +77,7 @@ pub fn run_script<R: Threads + Wait + Sync, G: Gate + Sync>(
     let site = Site::start(alloc, empty_dirs(alloc, script.nodes)?)?;
     let lines = ClusterLines { alloc, setup, gate };
     let left = lane_threads::run_script(rt, alloc, &lines, site, script)?;
-    left.ended();
-    Ok(left.into_cluster())
+    let cluster = left.into_cluster();
+    cluster.ended();
+    Ok(cluster)
 }

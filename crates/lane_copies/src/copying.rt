@@ -12,57 +12,49 @@ ghost use Rattle.lane_copies.specs.Jobs.{BeginsCopy};
 use crate::jobs::bring_over;
 use cluster_nodes::CopyTask;
 use disk_model::FaultDir;
-use hist_lock::{HistLock, LaneSeat};
-use lane_sections::{Gate, Site, Turn, enter_site, give_way};
-use lane_threads::{Halt, Setup, leave};
+use hist_lock::LaneSeat;
+use lane_sections::{Gate, Lanes, Site, Turn, enter_site, give_way};
+use lane_threads::leave;
 use nrt_base::{At, NoMemory, NodeNo};
-use std::alloc::Global;
 use std::sync::Wait;
 
 // Starts a copy, where no job for the newest version runs at the node.
-fn start<R: Wait, D: FaultDir + Drop>(
-    rt: &R,
-    alloc: Global,
-    lock: &HistLock<Site<D>>,
-    setup: Setup,
+fn start<R: Wait, D: FaultDir + Drop, G: Gate>(
+    lanes: &Lanes<'_, R, D, G>,
     seat: &mut LaneSeat<Site<D>>,
     at: At,
     n: NodeNo,
 ) -> Result<Turn<CopyTask>, NoMemory>
-    requires seat { IsLaneSeat setup.log lock.now at.lane.0 seat.old }
+    requires seat { IsLaneSeat lanes.now.setup.log lanes.now.lock.now at.lane.0 seat.old }
     requires fresh { entries_of_line at (printed (log_seen seat.old)) ≡ [] }
-    requires node { IsNode setup.nodes n.0 }
-    ensures { IfOk result (TurnsLine setup.log (BeginsCopy at n) (IsUnbegunIn at)
-        lock.now (Copy n) at seat.old seat.new) }
+    requires node { IsNode lanes.now.setup.nodes n.0 }
+    ensures { IfOk result (TurnsLine lanes.now.setup.log (BeginsCopy at n) (IsUnbegunIn at)
+        lanes.now.lock.now (Copy n) at seat.old seat.new) }
 {
-    let mut held = enter_site(rt, lock, setup, at, seat)?;
-    let answer = held.value().copy_start(alloc, at, n);
-    leave(lock, at.lane, seat, held);
+    let mut held = enter_site(lanes, seat, at)?;
+    let answer = held.value().copy_start(lanes.alloc, at, n);
+    leave(lanes.lock, at.lane, seat, held);
     answer
 }
 
 /// Copies the newest point to a node. While a job for it runs there the line waits.
 pub fn copy<R: Wait, D: FaultDir + Drop, G: Gate>(
-    rt: &R,
-    alloc: Global,
-    lock: &HistLock<Site<D>>,
-    setup: Setup,
-    gate: &G,
-    halt: &Halt,
+    lanes: &Lanes<'_, R, D, G>,
     seat: &mut LaneSeat<Site<D>>,
     at: At,
     n: NodeNo,
 ) -> Result<(), NoMemory>
-    requires seat { IsLaneSeat setup.log lock.now at.lane.0 seat.old }
+    requires seat { IsLaneSeat lanes.now.setup.log lanes.now.lock.now at.lane.0 seat.old }
     requires fresh { entries_of_line at (printed (log_seen seat.old)) ≡ [] }
-    requires node { IsNode setup.nodes n.0 }
-    ensures { OnOk result (EndsItsLine setup.log lock.now (Copy n) at seat.old seat.new) }
+    requires node { IsNode lanes.now.setup.nodes n.0 }
+    ensures { OnOk result (EndsItsLine lanes.now.setup.log lanes.now.lock.now (Copy n) at seat.old
+        seat.new) }
 {
-    for _ in rt.forever() {
-        match start(rt, alloc, lock, setup, seat, at, n)? {
-            Turn::Busy => give_way(halt)?,
+    for _ in lanes.rt.forever() {
+        match start(lanes, seat, at, n)? {
+            Turn::Busy => give_way(lanes.halt)?,
             Turn::Done => return Ok(()),
-            Turn::Work(task) => return bring_over(rt, alloc, lock, setup, gate, seat, at, &task),
+            Turn::Work(task) => return bring_over(lanes, seat, at, &task),
         }
     }
     unreachable!()

@@ -10,32 +10,29 @@ ghost use Rattle.lane_lines.specs.Reads.{IsEvaluated};
 
 use disk_model::FaultDir;
 use documents::{Answer, Query};
-use hist_lock::{HistLock, LaneSeat};
-use lane_sections::{Site, enter_site};
-use lane_threads::{Setup, leave};
+use hist_lock::LaneSeat;
+use lane_sections::{Gate, Lanes, Site, enter_site};
+use lane_threads::leave;
 use nrt_base::{At, NoMemory};
-use std::alloc::Global;
 use std::sync::Wait;
 
 /// Ends a search with its answer.
-pub fn answer_line<R: Wait, D: FaultDir + Drop>(
-    rt: &R,
-    alloc: Global,
-    lock: &HistLock<Site<D>>,
-    setup: Setup,
+pub fn answer_line<R: Wait, D: FaultDir + Drop, G: Gate>(
+    lanes: &Lanes<'_, R, D, G>,
     seat: &mut LaneSeat<Site<D>>,
     at: At,
     query: &Query,
     answer: Answer,
 ) -> Result<(), NoMemory>
-    requires seat { IsLaneSeat setup.log lock.now at.lane.0 seat.old }
+    requires seat { IsLaneSeat lanes.now.setup.log lanes.now.lock.now at.lane.0 seat.old }
     requires evaluated { IsEvaluated at query.now answer (log_seen seat.old) }
     ensures { (command : LineCommand)
         → AsksFor command query.now (last_of_line at (printed (log_seen seat.old)))
-        → OnOk result (EndsItsLine setup.log lock.now command at seat.old seat.new) }
+        → OnOk result (EndsItsLine lanes.now.setup.log lanes.now.lock.now command at seat.old
+        seat.new) }
 {
-    let mut held = enter_site(rt, lock, setup, at, seat)?;
-    let ended = held.value().answer_end(alloc, at, query, answer);
-    leave(lock, at.lane, seat, held);
+    let mut held = enter_site(lanes, seat, at)?;
+    let ended = held.value().answer_end(lanes.alloc, at, query, answer);
+    leave(lanes.lock, at.lane, seat, held);
     ended
 }

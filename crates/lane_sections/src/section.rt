@@ -7,10 +7,12 @@ ghost use Rattle.history_book.specs.Turns.{AreInTurn};
 ghost use Rattle.lane_threads.specs.Seats.{IsLaneSeat, HasEntered};
 ghost use Rattle.cluster_site.specs.Sites.{is_logged};
 
+use crate::gate::Gate;
+use crate::lanes::Lanes;
 use cluster_site::Site;
 use disk_model::FaultDir;
-use hist_lock::{Held, HistLock, LaneSeat};
-use lane_threads::{Setup, enter};
+use hist_lock::{Held, LaneSeat};
+use lane_threads::enter;
 use nrt_base::{At, NoMemory};
 use std::sync::Wait;
 
@@ -24,23 +26,21 @@ fn holds_legal<D: FaultDir + Drop>(held: &mut Held<Site<D>>)
 }
 
 /// Takes the lock for a line, where the site has not ended and was set up so.
-pub fn enter_site<R: Wait, D: FaultDir + Drop>(
-    rt: &R,
-    lock: &HistLock<Site<D>>,
-    setup: Setup,
-    at: At,
+pub fn enter_site<R: Wait, D: FaultDir + Drop, G: Gate>(
+    lanes: &Lanes<'_, R, D, G>,
     seat: &mut LaneSeat<Site<D>>,
+    at: At,
 ) -> Result<Held<Site<D>>, NoMemory>
-    requires { IsLaneSeat setup.log lock.now at.lane.0 seat.old }
+    requires { IsLaneSeat lanes.now.setup.log lanes.now.lock.now at.lane.0 seat.old }
     ensures running { IfOk result (λ s. s.run.ended ≡ false) }
-    ensures nodes { IfOk result (λ s. s.run.nodes ≡ setup.nodes) }
-    ensures logged { IfOk result (λ s. is_logged s ≡ setup.log) }
+    ensures nodes { IfOk result (λ s. s.run.nodes ≡ lanes.now.setup.nodes) }
+    ensures logged { IfOk result (λ s. is_logged s ≡ lanes.now.setup.log) }
     ensures legal { IfOk result (λ s. IsLegalPast s.run.nodes (printed s.run.log)) }
     ensures turns { IfOk result (λ s. AreInTurn (printed s.run.log)) }
     ensures entered { IfOk result (λ s.
-        HasEntered setup.log lock.now at seat.old seat.new s.run.log) }
+        HasEntered lanes.now.setup.log lanes.now.lock.now at seat.old seat.new s.run.log) }
 {
-    let mut held = enter(rt, lock, setup, at, seat)?;
+    let mut held = enter(lanes.rt, lanes.lock, lanes.setup, at, seat)?;
     holds_legal(&mut held);
     Ok(held)
 }
