@@ -30,7 +30,7 @@ impl<D: FaultDir + Drop> Cluster<D> {
     ghost use Rattle.history_book.specs.Log.{printed, shown};
     ghost use Rattle.script_serving.specs.declared.script.LineCommand.TheVariants.{Publish};
     ghost use Rattle.script_serving.specs.Refusals.{without_primary};
-    ghost use Rattle.cluster_state.specs.Run.{IsNow, IsEnded};
+    ghost use Rattle.cluster_state.specs.Run.{IsNow, KeepsRest, IsEnded};
     ghost use Rattle.cluster_state.specs.Writes.{IsFlushed};
     ghost use Rattle.cluster_core.specs.Doing.{Does, IsReplied, IsRepliedAtDone, IsBegunAtWork, writing_command};
     ghost use Rattle.cluster_state.specs.Calls.{by_refusal, PublishStarts};
@@ -43,6 +43,7 @@ impl<D: FaultDir + Drop> Cluster<D> {
         ensures ok { OnOk result (IsNow self.old self.new (shown at
             (by_refusal (without_primary (printed self.old.log))
             (Event.Accepted (accepted_count (printed self.old.log) + 1) op)) ∷ self.old.log)) }
+        ensures rest { OnOk result (KeepsRest self.old self.new) }
         ensures err { OnErr result (IsEnded self.old self.new) }
 
         // what the line is owed
@@ -86,6 +87,7 @@ impl<D: FaultDir + Drop> Cluster<D> {
         requires running { self.old.ended ≡ false }
         requires fresh { entries_of_line at (printed self.old.log) ≡ [] }
         ensures ok { IfOk result (PublishStarts at self.old self.new) }
+        ensures rest { OnOk result (KeepsRest self.old self.new) }
         ensures err { OnErr result (IsEnded self.old self.new) }
 
         // what the line is owed

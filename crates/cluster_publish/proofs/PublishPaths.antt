@@ -24,6 +24,7 @@ use Rattle.merge_tasks.specs.Merging.{Sheet}
 use Rattle.history_book.specs.declared.inner.Inner.TheVariants.{FlushOut}
 use Rattle.history_book.specs.Laws.{IsFresh, Flying}
 use Rattle.history_book.specs.Turns.{AreInTurn}
+use Rattle.segment_infos.specs.declared.infos.Infos.{Infos}
 use Rattle.primary_state.specs.declared.parts.PrimaryParts.{PrimaryParts}
 use Rattle.primary_state.specs.Primary.{IsPrimary}
 use Rattle.primary_state.specs.Calls.{IsTaskOf, after_start, IsPublished}
@@ -42,11 +43,13 @@ use Rattle.cluster_nodes.specs.Places.{place_of, HasPrimary}
 use Rattle.cluster_state.specs.Run.{Rest, Run, IsNow}
 use Rattle.cluster_state.specs.State.{PrimaryShows, PlaceShows, Shows}
 use Rattle.cluster_state.specs.Merging.{NodeMerges, MergesStand}
-use Rattle.cluster_state.specs.Writes.{HandsFlush, IsFlushed}
+use Rattle.cluster_state.specs.Writes.{IsFull, HandsFlush, IsFlushed}
+use Rattle.cluster_state.specs.Sizes.{sizes_in}
+use Rattle.cluster_state.proofs.SizesTold.{sizes_count}
 use Rattle.cluster_state.proofs.Ledgers.{asked_of}
 use Rattle.cluster_state.proofs.Frames.{PutsBack, some_at, was, now_is, place_at, moved_at, moved_out}
 use Rattle.cluster_publish.proofs.Written.{accepted_place, started_place, published_place}
-use Rattle.cluster_publish.proofs.Filling.{is_full}
+use Rattle.cluster_publish.proofs.Filling.{as_many, is_full}
 use Rattle.cluster_publish.proofs.Primaries.{others_apart, primary_there, has_primary, numbered, unpublished, is_work}
 use Rattle.cluster_state.proofs.Turning.{log_is, nodes_is, past_has}
 
@@ -60,6 +63,11 @@ err_at r x y is same = subst (λ (z : _). r ≡ Err z) same is
 
 pub on_err : {T E P : Type 0} (r : Result T E) (e : E) → r ≡ Err e → OnErr r P → P
 on_err {T} {E} {P} r e is holds = subst (λ (q : Result T E). OnErr q P) is holds
+
+-- a number that is drawn leaves the records
+pub drawn_segs : (is_there : Bool) (infos : Infos) → (infos_drawn is_there infos).segs ≡ infos.segs
+drawn_segs true infos = refl
+drawn_segs false infos = refl
 
 -- ---- rules
 
@@ -158,6 +166,29 @@ module _ {D : Type 0} (cells : D → Cells) where
         is_full (printed r.log) (reads_of (cells p.dir)) p.infos.segs p.segs primary_at.whole.writer.stands.each primary_at.writer.live primary_at.writer.few primary_at.writer.documents many.2,
       )
 
+      -- a size is told for each of its segments
+      told_sizes : left.sizes ≡ sizes_in places → primary_of (printed r.log) ≡ Some n → length r.rest.sizes ≡ length p.segs
+      told_sizes told primary =
+          ap length (sym (ap (λ (z : Run). z.rest.sizes) view) ∙ told)
+          ∙ (sizes_count cells r.log r.nodes n.0 places p held node (there ∙ ap Some is) (λ m apart. others_apart (primary_of (printed r.log)) n m primary apart) (was cells r ended b.nodes b.log places view running shows)
+          ∙ sym (as_many (reads_of (cells p.dir)) p.infos.segs p.segs primary_at.whole.writer.stands.each))
+
+      -- which are as many as there may be
+      pub told_full : left.sizes ≡ sizes_in places → primary_of (printed r.log) ≡ Some n → AreTooMany p.waiting p.infos p.segs → IsFull r
+      told_full told primary many =
+          let count = told_sizes told primary in
+          let most : 256 ≤ length p.segs = many.2 in
+          let all : 256 ≤ length r.rest.sizes = omega (arith, count, most) in all
+
+      -- or a publish that draws a number has room for its segment
+      pub told_few : (q : PrimaryParts D) (task : FlushTask) → left.sizes ≡ sizes_in places → primary_of (printed r.log) ≡ Some n → IsTaskOf p task → q ≡ after_start p (Some task) → IsPrimary cells q
+          → cut_has_put (printed r.log) ≡ true → length r.rest.sizes < 256
+      told_few q task told primary t next whole put =
+          let count = told_sizes told primary in
+          let seg : IsSome task.seg = (subst (λ (ops : List Op). IsSome task.seg ↔ IsTrue (has_put ops)) (t.ops ∙ primary_at.waiting) (task_seg p task t)).1 put in
+          let few : length p.segs < 256 = (subst (IsPrimary cells) next whole).few seg in
+          omega (arith, count, few)
+
       -- the work is that of the publish in flight
       pub work_at : (at : At) (work : FlushWork) → IsLegalPast b.nodes (printed b.log) → AreInTurn (printed b.log) → publish_in_flight (printed r.log) ≡ Some at → IsFlushed at r.log work → IsWorkOf p work
       work_at at work legal turns flight flushed =
@@ -174,13 +205,15 @@ module _ {D : Type 0} (cells : D → Cells) where
       -- what is handed out stands in the log
       pub hands_out : {now : Rest} (b1 b2 b3 : Sheet) (at : At) (task : FlushTask) (segs : List Shown) → b1.log ≡ b.log → b1.nodes ≡ b.nodes → b2.log ≡ shown at Publishing ∷ b1.log → b2.nodes ≡ b1.nodes
           → b3.log ≡ kept (FlushOut at task.seg segs) ∷ b2.log → b3.nodes ≡ b2.nodes → IsFresh at (printed b.log) → segs ≡ task.segs → IsTaskOf p task
+          → (cut_has_put (printed r.log) ≡ true → length r.rest.sizes < 256)
           → HandsFlush at r (record { ended = false; nodes = b3.nodes; log = b3.log; rest = now }) task
-      hands_out b1 b2 b3 at task segs e1 n1 e2 n2 e3 n3 fresh same t = record {
+      hands_out b1 b2 b3 at task segs e1 n1 e2 n2 e3 n3 fresh same t few = record {
         now = record { running = refl; nodes = n3 ∙ (n2 ∙ (n1 ∙ nodes_is r ended b view)); log = log };
         out = ap (flush_out at) log ∙ (ap (λ (o : Option Handed). or_older o (if same_at at at then Some mine else None)) none ∙ ap (λ (c : Bool). if c then Some mine else None) (same_at_self at));
         ops = t.ops ∙ primary_at.waiting;
         seg = subst (λ (ops : List Op). IsSome task.seg ↔ IsTrue (has_put ops)) (t.ops ∙ primary_at.waiting) (task_seg p task t);
         sound = task_sound cells p task primary_at.whole t;
+        few = few;
       }
         where
           mine : Handed

@@ -7,7 +7,7 @@ ghost use Rattle.history_rules.specs.Commits.{is_disk_fault};
 ghost use Rattle.history_tables.specs.Begins.{open_line};
 ghost use Rattle.history_book.specs.Log.{printed, shown};
 ghost use Rattle.script_serving.specs.Refusals.{without_primary};
-ghost use Rattle.cluster_state.specs.Run.{IsNow, IsEnded};
+ghost use Rattle.cluster_state.specs.Run.{IsNow, KeepsRest, IsEnded};
 ghost use Rattle.cluster_state.specs.Writes.{IsFlushed};
 ghost use Rattle.cluster_state.specs.Calls.{by_refusal, cut_refusal as cut_refusal_lem, LineRefused, PublishStarts};
 ghost use Rattle.cluster_state.specs.GivesUp.{EndsPublish};
@@ -34,6 +34,7 @@ pub fn accept<D: FaultDir + Drop>(
     ensures ok { OnOk result (IsNow state.old state.new (shown at
         (by_refusal (without_primary (printed state.old.log))
         (Event.Accepted (accepted_count (printed state.old.log) + 1) op)) ∷ state.old.log)) }
+    ensures rest { OnOk result (KeepsRest state.old state.new) }
     ensures err { OnErr result (IsEnded state.old state.new) }
 {
     match state.primary() {
@@ -87,6 +88,7 @@ pub fn publish_start<D: FaultDir + Drop>(
     requires running { state.old.ended ≡ false }
     requires fresh { entries_of_line at (printed state.old.log) ≡ [] }
     ensures ok { IfOk result (PublishStarts at state.old state.new) }
+    ensures rest { OnOk result (KeepsRest state.old state.new) }
     ensures err { OnErr result (IsEnded state.old state.new) }
 {
     let Some(p) = state.primary() else {

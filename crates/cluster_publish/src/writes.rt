@@ -11,7 +11,7 @@ ghost use Rattle.history_book.specs.Laws.{Flying};
 ghost use Rattle.history_book.specs.Log.{printed, shown};
 ghost use Rattle.history_book.specs.Turns.{AreInTurn};
 ghost use Rattle.cluster_state.specs.Met.{ArePlanned, met_in, with_met, has_risen as has_risen_at};
-ghost use Rattle.cluster_state.specs.Run.{IsNow, IsEnded};
+ghost use Rattle.cluster_state.specs.Run.{IsNow, KeepsRest, IsEnded};
 ghost use Rattle.cluster_state.specs.Writes.{StartsPublish, IsFlushed};
 ghost use Rattle.cluster_state.specs.GivesUp.{PublishEnds};
 
@@ -69,6 +69,7 @@ pub fn accept_at<D: FaultDir + Drop>(
     requires primary { primary_of (printed cluster.old.log) ≡ Some p }
     ensures ok { OnOk result (IsNow cluster.old cluster.new (shown at
         (Event.Accepted (accepted_count (printed cluster.old.log) + 1) op) ∷ cluster.old.log)) }
+    ensures rest { OnOk result (KeepsRest cluster.old cluster.new) }
     ensures err { OnErr result (IsEnded cluster.old cluster.new) }
 {
     let book = cluster.ledger.book();
@@ -108,6 +109,7 @@ pub fn start_publish<D: FaultDir + Drop>(
     requires names { cut_has_put (printed cluster.old.log) ≡ true
         → names_drawn (printed cluster.old.log) ≢ segments_of_generation }
     ensures ok { IfOk result (StartsPublish at cluster.old cluster.new) }
+    ensures rest { OnOk result (KeepsRest cluster.old cluster.new) }
     ensures err { OnErr result (IsEnded cluster.old cluster.new) }
 {
     let book = cluster.ledger.book();

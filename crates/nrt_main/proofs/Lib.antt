@@ -5,3 +5,4 @@ mod Loads
 mod AnswerLaws
 mod FrameAnswers
 mod CheckAnswers
+mod Complete
