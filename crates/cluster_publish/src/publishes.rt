@@ -56,6 +56,7 @@ pub fn accept_again<D: FaultDir + Drop>(
     requires primary { primary_of (printed state.old.log) ≢ None }
     ensures ok { OnOk result (IsNow state.old state.new (shown at
         (Event.Accepted (accepted_count (printed state.old.log) + 1) op) ∷ state.old.log)) }
+    ensures rest { OnOk result (KeepsRest state.old state.new) }
     ensures err { OnErr result (IsEnded state.old state.new) }
 {
     match state.primary() {

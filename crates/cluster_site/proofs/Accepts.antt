@@ -1,6 +1,7 @@
 -- What accepting an operation does where there is a log, and what a promotion does where there is none.
-use Rattle.std.proofs.Common.{◌≡◌, ◌↔◌, ◌+◌, ◌∷◌, ◌++◌, ℕ, Bool, true, false, List, [], Option, Some, None, refl, ap, ◌∙◌, sym, subst, true≢false, false≢true, if◌then◌else◌, drop}
+use Rattle.std.proofs.Common.{◌≡◌, ◌↔◌, ◌+◌, ◌<◌, ◌^◌, ◌∷◌, ◌++◌, ℕ, Bool, true, false, List, [], Option, Some, None, refl, ap, ◌∙◌, sym, subst, true≢false, if◌then◌else◌, drop}
 use Rattle.std.specs.Prelude.{Result, Ok, Err, OnOk, OnErr, IsTrue, IsErr, IsErrOf, is_some, is_none}
+use Rattle.std.proofs.lemmas.Bool.{false≢true}
 use Rattle.nrt_base.specs.declared.numbers.At.{At}
 use Rattle.nrt_base.specs.declared.numbers.NodeNo.{NodeNo}
 use Rattle.documents.specs.declared.operation.Op.{Op}
@@ -10,7 +11,7 @@ use Rattle.disk_model.specs.Faults.{Plans}
 use Rattle.history_rules.specs.declared.cause.Cause.TheVariants.{NoPrimary}
 use Rattle.history_rules.specs.declared.entry.Event.{Event}
 use Rattle.history_rules.specs.declared.entry.Event.TheVariants.{Accepted, Refused}
-use Rattle.history_rules.specs.Nodes.{Past, primary_of}
+use Rattle.history_rules.specs.Nodes.{Past, primary_of, accepted_count, generation_of}
 use Rattle.history_rules.specs.Lines.{entries_of_line, is_answered}
 use Rattle.history_book.specs.Log.{Log, printed, shown}
 use Rattle.history_book.proofs.FreshLaws.{fresh}
@@ -27,7 +28,7 @@ use Rattle.trans_log.specs.Logs.{IsOpenLog, IsLogSafe, IsCalm, in_flight}
 use Rattle.cluster_state.specs.Run.{Run, IsNow, IsEnded}
 use Rattle.cluster_state.specs.Calls.{by_refusal}
 use Rattle.cluster_core.specs.Doing.{Does, writing_command}
-use Rattle.cluster_site.specs.Sites.{SiteRun, SiteStands, IsInStep, LogGoesOn, LogStands, DoesAtSite, operations_in, records_of, with_record}
+use Rattle.cluster_site.specs.Sites.{SiteRun, SiteStands, IsInStep, LogGoesOn, LogStands, DoesAtSite, operations_in, records_of, with_record, with_next}
 use Rattle.cluster_site.proofs.Lifting.{is_promotion, line_goes}
 use Rattle.cluster_site.proofs.Stands.{site_of, runs_was, ended_stands}
 
@@ -53,6 +54,12 @@ appended cells plans old new r result x is was ended files safe calm = record {
   safe = subst (λ (z : Result (Unit {0}) LogFault). IsLogSafe (cells new.dir) new.records.items (in_flight z r)) is (safe was.safe);
   calm = calm was.calm;
 }
+
+-- one more record is there where a log is
+pub noted : {D : Type 0} {X E : Type 0} (old : Option (TransLog D)) (was now : TransLog D) (entry : LogOp) (r : Result X E) → old ≡ Some was → OnOk r (now.records.items ≡ was.records.items ++ entry ∷ [])
+    → OnOk r (◌≡◌ {A = Option (List LogOp)} (Some now.records.items) (with_record entry (records_of old)))
+noted old was now entry (Ok x) is more = ap Some more ∙ sym (ap (λ (o : Option (TransLog _)). with_record entry (records_of o)) is)
+noted old was now entry (Err e) is more = tt
 
 -- ---- one more record
 
@@ -149,3 +156,25 @@ module _ {D : Type 0} (cells : D → Cells) (plans : D → Option Plans) (old ne
   pub accept_does : {X E : Type 0} (r : Result X E) → is_some (records_of later) ≡ is_some (records_of log) → OnOk r (Does (writing_command op) at old new) → OnOk r (DoesAtSite (writing_command op) at s (site_of new later))
   accept_does (Ok x) flag does = subst (λ (z : SiteRun). DoesAtSite (writing_command op) at z (site_of new later)) view (record { running = does.running; nodes = does.nodes; logged = flag; goes = goes_on does })
   accept_does (Err e) flag does = tt
+
+-- ---- what the log has behind it
+
+module _ {D : Type 0} (old : Run) (log later : Option (TransLog D)) (s : SiteRun) (op : Op) (view : site_of old log ≡ s) where
+  at_site : records_of later ≡ with_next op (printed old.log) (records_of log) → records_of later ≡ with_next op (printed s.run.log) s.kept
+  at_site is = subst (λ (z : SiteRun). records_of later ≡ with_next op (printed z.run.log) z.kept) view is
+
+  pub kept_same : {X E : Type 0} (r : Result X E) → is_some (primary_of (printed old.log)) ≡ false → later ≡ log → OnOk r (records_of later ≡ with_next op (printed s.run.log) s.kept)
+  kept_same (Ok x) none same =
+      let next : LogOp = record { generation = record { 0 = generation_of (printed old.log) }; seq = accepted_count (printed old.log) + 1; op = op } in
+      at_site (ap records_of same ∙ sym (ap (λ (b : Bool). if b then with_record next (records_of log) else records_of log) none))
+  kept_same (Err e) none same = tt
+
+  pub kept_more : {X E : Type 0} (r : Result X E) (entry : LogOp) → entry.op ≡ op → is_some (primary_of (printed old.log)) ≡ true → entry.generation.0 ≡ generation_of (printed old.log)
+      → (accepted_count (printed old.log) + 1 < 2 ^ 32 → entry.seq ≡ accepted_count (printed old.log) + 1) → records_of later ≡ with_record entry (records_of log)
+      → accepted_count (printed s.run.log) + 1 < 2 ^ 32 → OnOk r (records_of later ≡ with_next op (printed s.run.log) s.kept)
+  kept_more (Ok x) entry same some generation number more few =
+      let next : LogOp = record { generation = record { 0 = generation_of (printed old.log) }; seq = accepted_count (printed old.log) + 1; op = op } in
+      let seq : entry.seq ≡ accepted_count (printed old.log) + 1 = number (subst (λ (z : SiteRun). accepted_count (printed z.run.log) + 1 < 2 ^ 32) (sym view) few) in
+      let made : entry ≡ next = λ i. record { generation = record { 0 = generation i }; seq = seq i; op = same i } in
+      at_site (more ∙ (ap (λ (r : LogOp). with_record r (records_of log)) made ∙ sym (ap (λ (b : Bool). if b then with_record next (records_of log) else records_of log) some)))
+  kept_more (Err e) entry same some generation number more few = tt

@@ -34,7 +34,7 @@ use Rattle.cluster_recovery.specs.PromoteCalls.{promote_event}
 use Rattle.cluster_core.specs.Doing.{IsReplied}
 use Rattle.cluster_core.proofs.Does.{first_suits}
 use Rattle.cluster_site.specs.Sites.{SiteRun, SiteStands, AreLogged, IsInStep, DoesAtSite, records_of, is_logged}
-use Rattle.cluster_site.specs.Replays.{newest_promoted, MayAcceptAgain, OwesRecords, OwesLacking, AcceptsRecords, AcceptsLacking}
+use Rattle.cluster_site.specs.Replays.{with_accepted, with_replay, with_promotion, newest_promoted, MayAcceptAgain, OwesRecords, OwesLacking, AcceptsRecords, AcceptsLacking}
 use Rattle.cluster_site.proofs.Replays.{some_none}
 use Rattle.cluster_site.proofs.Stands.{site_of, runs_was}
 
@@ -126,7 +126,8 @@ module _ (n : NodeNo) (force : Force) (at : At) where
   -- ---- and then what was accepted again
 
   -- what the whole line added, and the log in step with it
-  record Ends (kept : Option (List LogOp)) (old new : Log) : Type 0 where
+  record Ends (kept : Option (List LogOp)) (old mid new : Log) : Type 0 where
+    whole : new ≡ with_replay at (is_some kept) mid
     goes : GoesByLine (is_some kept) (Promote n force) at old new
     step : IsInStep kept (printed new)
     replied : is_answered at (printed new) ≡ true
@@ -141,8 +142,9 @@ module _ (n : NodeNo) (force : Force) (at : At) where
   refusal_steps records past (Some cause) promoted step = record { operations = step.operations; replayed = step.replayed }
 
   ends : (kept : Option (List LogOp)) (old mid new : Log) → IsInStep kept (printed old) → IsFresh at (printed old) → mid ≡ shown at (promote_event at.lane.0 n force (printed old)) ∷ old → is_answered at (printed mid) ≡ true
-      → AcceptsLacking at mid new kept → Ends kept old new
+      → AcceptsLacking at mid new kept → Ends kept old mid new
   ends None old mid new step new_line is replied same = record {
+    whole = same;
     goes = subst (λ (l : Log). GoesByLine false (Promote n force) at old l) (sym same) (promotion_goes None old mid step new_line is);
     step = tt;
     replied = subst (λ (l : Log). is_answered at (printed l) ≡ true) (sym same) replied;
@@ -156,13 +158,15 @@ module _ (n : NodeNo) (force : Force) (at : At) where
       step_mid promoted = subst (λ (l : Log). AreLogged records (printed l)) (sym is)
           (refusal_steps records (printed old) (refusal (Promote n force) at.lane.0 (printed old)) (subst (λ (l : Log). newest_promoted (printed l) ≡ None) is promoted) step)
 
-      by : (o : Option ℕ) → newest_promoted (printed mid) ≡ o → AcceptsRecords at mid new o → Ends (Some records) old new
+      by : (o : Option ℕ) → newest_promoted (printed mid) ≡ o → AcceptsRecords at mid new o → Ends (Some records) old mid new
       by None promoted same = record {
+        whole = same ∙ ap (λ (ops : List Op). with_accepted at ops mid) (sym (step_mid promoted).replayed);
         goes = subst (λ (l : Log). GoesByLine true (Promote n force) at old l) (sym same) (promotion_goes (Some records) old mid step new_line is);
         step = subst (λ (l : Log). AreLogged records (printed l)) (sym same) (step_mid promoted);
         replied = subst (λ (l : Log). is_answered at (printed l) ≡ true) (sym same) replied;
       }
       by (Some v) promoted r = record {
+        whole = r.whole;
         goes = goes_join true (Promote n force) at old mid new (promotion_goes (Some records) old mid step new_line is) (r.goes n force);
         step = record { operations = step.operations ∙ (sym logged_mid ∙ sym r.logged); replayed = r.due };
         replied = r.may.replied;
@@ -185,7 +189,7 @@ module _ {D : Type 0} (cells : D → Cells) (plans : D → Option Plans) (n : No
   promoted_owes = owes_lacking n force at (records_of log) old.log mid.log step_here fresh_here now.log
 
   module _ (same : new.nodes ≡ mid.nodes) (replied : IsReplied at mid) where
-    whole : AcceptsLacking at mid.log new.log (records_of log) → Ends n force at (records_of log) old.log new.log
+    whole : AcceptsLacking at mid.log new.log (records_of log) → Ends n force at (records_of log) old.log mid.log new.log
     whole done = ends n force at (records_of log) old.log mid.log new.log step_here fresh_here now.log replied done
 
     pub promoted_goes : {X E : Type 0} (r : Result X E) → OnOk r (AcceptsLacking at mid.log new.log (records_of log))
@@ -197,37 +201,43 @@ module _ {D : Type 0} (cells : D → Cells) (plans : D → Option Plans) (n : No
         by (Ok x) done more = (whole done).goes
         by (Err e) done more = goes_join (is_some (records_of log)) (Promote n force) at old.log mid.log new.log (promotion_goes n force at (records_of log) old.log mid.log step_here fresh_here now.log) (more n force)
 
-    pub promoted_stands : {X E : Type 0} (r : Result X E) → OnErr r (new.ended ≡ true) → OnOk r (AcceptsLacking at mid.log new.log (records_of log))
+    promoted_was : {X E : Type 0} (r : Result X E) → OnErr r (new.ended ≡ true) → OnOk r (AcceptsLacking at mid.log new.log (records_of log))
         → OnErr r ((m : NodeNo) (f : Force) → GoesByLine (is_some (records_of log)) (Promote m f) at mid.log new.log) → SiteStands cells plans new log
-    promoted_stands (Ok x) ended done more = record {
+    promoted_was (Ok x) ended done more = record {
       faults = (call_goes (is_some (records_of log)) (Promote n force) at old.log new.log was.faults (whole done).goes).faults;
       in_step = λ _. (whole done).step;
       stands = λ _. was.stands runs;
     }
-    promoted_stands (Err e) ended done more = record {
+    promoted_was (Err e) ended done more = record {
       faults = (call_goes (is_some (records_of log)) (Promote n force) at old.log new.log was.faults
           (goes_join (is_some (records_of log)) (Promote n force) at old.log mid.log new.log (promotion_goes n force at (records_of log) old.log mid.log step_here fresh_here now.log) (more n force))).faults;
       in_step = λ runs_on. absurd (true≢false (sym ended ∙ runs_on));
       stands = λ runs_on. absurd (true≢false (sym ended ∙ runs_on));
     }
 
-    pub promoted_does : {X E : Type 0} (r : Result X E) → OnOk r (new.ended ≡ false) → OnOk r (AcceptsLacking at mid.log new.log (records_of log)) → OnOk r (DoesAtSite (Promote n force) at s (site_of new log))
-    promoted_does (Ok x) goes_on done =
-        subst (λ (z : SiteRun). DoesAtSite (Promote n force) at z (site_of new log)) view (record { running = goes_on; nodes = same ∙ now.nodes; logged = refl; goes = (whole done).goes })
-    promoted_does (Err e) goes_on done = tt
+    -- the log of the site is as before
+    pub promoted_stands : {X E : Type 0} (r : Result X E) (later : Option (TransLog D)) → later ≡ log → OnErr r (new.ended ≡ true) → OnOk r (AcceptsLacking at mid.log new.log (records_of log))
+        → OnErr r ((m : NodeNo) (f : Force) → GoesByLine (is_some (records_of log)) (Promote m f) at mid.log new.log) → SiteStands cells plans new later
+    promoted_stands r later is ended done more = subst (λ (l : Option (TransLog D)). SiteStands cells plans new l) (sym is) (promoted_was r ended done more)
+
+    pub promoted_does : {X E : Type 0} (r : Result X E) (later : Option (TransLog D)) → later ≡ log → OnOk r (new.ended ≡ false) → OnOk r (AcceptsLacking at mid.log new.log (records_of log))
+        → OnOk r (DoesAtSite (Promote n force) at s (site_of new later))
+    promoted_does (Ok x) later is goes_on done =
+        subst (λ (z : SiteRun). DoesAtSite (Promote n force) at z (site_of new later)) view
+        (record { running = goes_on; nodes = same ∙ now.nodes; logged = ap (λ (l : Option (TransLog D)). is_some (records_of l)) is; goes = (whole done).goes })
+    promoted_does (Err e) later is goes_on done = tt
 
     pub promoted_replied : {X E : Type 0} (r : Result X E) → OnOk r (AcceptsLacking at mid.log new.log (records_of log)) → OnOk r (IsReplied at new)
     promoted_replied (Ok x) done = (whole done).replied
     promoted_replied (Err e) done = tt
 
-    -- without a log just the promotion's entry was added
-    pub promoted_alone : {X E : Type 0} (r : Result X E) → is_logged s ≡ false → OnOk r (new.ended ≡ false) → OnOk r (AcceptsLacking at mid.log new.log (records_of log))
-        → OnOk r (IsNow s.run new (shown at (promote_event at.lane.0 n force (printed s.run.log)) ∷ s.run.log))
-    promoted_alone (Ok x) none goes_on done =
-        subst (λ (z : SiteRun). IsNow z.run new (shown at (promote_event at.lane.0 n force (printed z.run.log)) ∷ z.run.log)) view
-        (record { running = goes_on; nodes = same ∙ now.nodes; log = alone (records_of log) (ap is_logged view ∙ none) done ∙ now.log })
-      where
-        alone : (kept : Option (List LogOp)) → is_some kept ≡ false → AcceptsLacking at mid.log new.log kept → new.log ≡ mid.log
-        alone None e done = done
-        alone (Some records) e done = absurd (true≢false e)
-    promoted_alone (Err e) none goes_on done = tt
+    -- just the promotion's entry was added, and behind it all that was due
+    pub promoted_whole : {X E : Type 0} (r : Result X E) → OnOk r (new.ended ≡ false) → OnOk r (AcceptsLacking at mid.log new.log (records_of log))
+        → OnOk r (IsNow s.run new (with_promotion at n force (is_logged s) s.run.log))
+    promoted_whole (Ok x) goes_on done =
+        subst (λ (z : SiteRun). IsNow z.run new (with_promotion at n force (is_logged z) z.run.log)) view
+        (record { running = goes_on; nodes = same ∙ now.nodes; log = (whole done).whole ∙ ap (λ (l : Log). with_replay at (is_some (records_of log)) l) now.log })
+    promoted_whole (Err e) goes_on done = tt
+
+    pub promoted_nodes : new.nodes ≡ s.run.nodes
+    promoted_nodes = same ∙ (now.nodes ∙ ap (λ (z : SiteRun). z.run.nodes) view)

@@ -1,5 +1,5 @@
 -- How a line accepts again, behind its promotion, what is due.
-use Rattle.std.proofs.Common.{◌≡◌, ◌&&◌, ◌≤◌, ◌<◌, ◌⊎◌, suc, add-one, drop-cons, get_or, inl, inr, arith, ◌+◌, ◌∷◌, ◌++◌, ℕ, Bool, true, List, [], Option, Some, None, refl, ap, ◌∙◌, sym, subst, if◌then◌else◌, drop, length, reverse}
+use Rattle.std.proofs.Common.{◌≡◌, ◌&&◌, ◌≤◌, ◌<◌, ◌⊎◌, suc, drop-cons, get_or, inl, inr, arith, ◌+◌, ◌∷◌, ◌++◌, ℕ, Bool, true, List, [], Option, Some, None, refl, ap, ◌∙◌, sym, subst, if◌then◌else◌, drop, length, reverse}
 use Rattle.std.specs.Prelude.{Result, Ok, Err, OnErr, is_some}
 use Rattle.std.specs.Option.{option_map}
 use Rattle.std.proofs.lemmas.Bool.{or_right}
@@ -10,7 +10,7 @@ use Rattle.nrt_base.specs.declared.numbers.Version.{Version}
 use Rattle.documents.specs.declared.operation.Op.{Op}
 use Rattle.history_rules.specs.declared.entry.Entry.{Entry}
 use Rattle.history_rules.specs.declared.entry.Event.TheVariants.{Accepted}
-use Rattle.history_rules.specs.Nodes.{Past}
+use Rattle.history_rules.specs.Nodes.{Past, accepted_count}
 use Rattle.history_rules.specs.Lines.{same_at, is_reply, is_answered}
 use Rattle.history_rules.specs.Points.{operations_at}
 use Rattle.history_tables.proofs.RowLemmas.{same_at_self}
@@ -22,7 +22,7 @@ use Rattle.script_serving.specs.Replays.{logged_operations, replay_due, due}
 use Rattle.lane_threads.specs.Owes.{SuitsOrReplays, GoesByLine}
 use Rattle.trans_log.specs.declared.record.LogOp.{LogOp}
 use Rattle.cluster_site.specs.Sites.{operations_in}
-use Rattle.cluster_site.specs.Replays.{version_promoted, newest_promoted, LacksBehind, Lacks, MayAcceptAgain, OwesRecords, OwesLacking, ReplaysTo, AcceptsRecords, AcceptsLacking}
+use Rattle.cluster_site.specs.Replays.{with_accepted, version_promoted, newest_promoted, LacksBehind, Lacks, MayAcceptAgain, OwesRecords, OwesLacking, ReplaysTo, AcceptsRecords, AcceptsLacking}
 
 pub some_none : {X : Type 0} (x : X) → ◌≡◌ {A = Option X} (Some x) None → ⊥
 some_none x is = absurd (cc)
@@ -49,10 +49,11 @@ module _ (at : At) (op : Op) (k : ℕ) (past : Past) where
   due_less ops is = ap (drop 1) is
 
 -- the next of what is due
-pub replays_one : (at : At) (base old new : Log) (op : Op) (ops : List Op) (k : ℕ) → ReplaysTo at base old (op ∷ ops) → new ≡ shown at (Accepted k op) ∷ old → ReplaysTo at base new ops
-replays_one at base old new op ops k r is = subst (λ (l : Log). ReplaysTo at base l ops) (sym is) (record {
+pub replays_one : (at : At) (base old new : Log) (op : Op) (ops : List Op) → ReplaysTo at base old (op ∷ ops) → new ≡ shown at (Accepted (accepted_count (printed old) + 1) op) ∷ old → ReplaysTo at base new ops
+replays_one at base old new op ops r is = let k : ℕ = accepted_count (printed old) + 1 in subst (λ (l : Log). ReplaysTo at base l ops) (sym is) (record {
   may = may_still at op k (printed old) r.may;
   due = due_less at op k (printed old) ops r.due;
+  whole = r.whole;
   logged = logged_still at op k (printed old) r.may.replied ∙ r.logged;
   goes = λ n force.
       let was = r.goes n force in
@@ -66,18 +67,20 @@ replays_one at base old new op ops k r is = subst (λ (l : Log). ReplaysTo at ba
 })
 
 -- the same by its place
-pub replays_next : (at : At) (base old new : Log) (records : List LogOp) (i : ℕ) (entry : LogOp) (k : ℕ) → i < length records → entry ≡ get_or records i entry → ReplaysTo at base old (operations_in (drop i records))
-    → new ≡ shown at (Accepted k entry.op) ∷ old → ReplaysTo at base new (operations_in (drop (i + 1) records))
-replays_next at base old new records i entry k within item r is =
-    let here : drop i records ≡ entry ∷ drop (i + 1) records = rw (add-one, drop-cons records i entry) (ap (λ (x : LogOp). x ∷ drop (suc i) records) (sym item)) in
-    replays_one at base old new entry.op (operations_in (drop (i + 1) records)) k (subst (λ (rs : List LogOp). ReplaysTo at base old (operations_in rs)) here r) is
+pub replays_next : (at : At) (base old new : Log) (records : List LogOp) (i : ℕ) (entry : LogOp) → i < length records → entry ≡ get_or records i entry → ReplaysTo at base old (operations_in (drop i records))
+    → new ≡ shown at (Accepted (accepted_count (printed old) + 1) entry.op) ∷ old → ReplaysTo at base new (operations_in (drop (i + 1) records))
+replays_next at base old new records i entry within item r is =
+    let next : suc i ≡ i + 1 = omega arith in
+    let here : drop i records ≡ entry ∷ drop (i + 1) records =
+        subst (λ (k : ℕ). drop i records ≡ entry ∷ drop k records) next (drop-cons records i entry within ∙ ap (λ (x : LogOp). x ∷ drop (suc i) records) (sym item)) in
+    replays_one at base old new entry.op (operations_in (drop (i + 1) records)) (subst (λ (rs : List LogOp). ReplaysTo at base old (operations_in rs)) here r) is
 
 pub replays_all : (at : At) (base now : Log) (records : List LogOp) (i : ℕ) → length records ≤ i → ReplaysTo at base now (operations_in (drop i records)) → ReplaysTo at base now []
 replays_all at base now records i all r = subst (λ (rs : List LogOp). ReplaysTo at base now (operations_in rs)) (drop_all i records all) r
 
 -- nothing was accepted again yet
 pub replays_none : (at : At) (log : Log) (left : List Op) → MayAcceptAgain at (printed log) → replay_due (printed log) ≡ left → ReplaysTo at log log left
-replays_none at log left may is = record { may = may; due = is; logged = refl; goes = λ n force. record { more = []; log = refl; adds = tt } }
+replays_none at log left may is = record { may = may; due = is; whole = ap (λ (ops : List Op). with_accepted at ops log) (sym is); logged = refl; goes = λ n force. record { more = []; log = refl; adds = tt } }
 
 -- ---- what is lacking
 
@@ -100,6 +103,20 @@ none_newest (e ∷ entries) none = absurd (let some : suc (length entries) ≡ 0
 -- what was found for the newest promotion
 lacks_at : (records found : List LogOp) (past : Past) (o : Option ℕ) (v : ℕ) → o ≡ Some v → found ≡ drop (length (operations_at past v)) records → LacksBehind records past o found
 lacks_at records found past o v is same = subst (λ (x : Option ℕ). LacksBehind records past x found) (sym is) same
+
+module _ (past : Past) (kept : Option (List LogOp)) where
+  pub lacks_unlogged : kept ≡ None → Lacks kept past None
+  lacks_unlogged is = subst (λ (k : Option (List LogOp)). Lacks k past None) (sym is) refl
+
+  pub lacks_unpromoted : (records : List LogOp) → kept ≡ Some records → newest_promoted past ≡ None → Lacks kept past None
+  lacks_unpromoted records is none = subst (λ (k : Option (List LogOp)). Lacks k past None) (sym is) none
+
+  pub lacks_found : (records found : List LogOp) (v : ℕ) → kept ≡ Some records → newest_promoted past ≡ Some v → found ≡ drop (length (operations_at past v)) records → Lacks kept past (Some found)
+  lacks_found records found v is promoted same = subst (λ (k : Option (List LogOp)). Lacks k past (Some found)) (sym is) (lacks_at records found past (newest_promoted past) v promoted same)
+
+-- what a call found, in the terms of its caller
+pub lacks_here : (kept : Option (List LogOp)) (past now : Past) (o p : Option (List LogOp)) → past ≡ now → o ≡ p → Lacks kept past o → Lacks kept now p
+lacks_here kept past now o p same is lacks = subst (λ (x : Past × Option (List LogOp)). Lacks kept x.0 x.1) (λ i. (same i, is i)) lacks
 
 -- ---- what is owed, and what was done
 
@@ -127,10 +144,15 @@ all_lacking at old new (Some records) found lacks done = by (newest_promoted (pr
     by (Some v) lacks = done
 
 -- some of it was
-pub some_lacking : (at : At) (old new : Log) (kept : Option (List LogOp)) (found : List LogOp) (n : NodeNo) (force : Force) → Lacks kept (printed old) (Some found) → GoesByLine true (Promote n force) at old new
+some_lacking : (at : At) (old new : Log) (kept : Option (List LogOp)) (found : List LogOp) (n : NodeNo) (force : Force) → Lacks kept (printed old) (Some found) → GoesByLine true (Promote n force) at old new
     → GoesByLine (is_some kept) (Promote n force) at old new
 some_lacking at old new None found n force lacks goes = absurd (some_none found lacks)
 some_lacking at old new (Some records) found n force lacks goes = goes
+
+pub some_replayed : {X E : Type 0} (r : Result X E) (at : At) (old new : Log) (kept : Option (List LogOp)) (found : List LogOp) → Lacks kept (printed old) (Some found) → OnErr r ((n : NodeNo) (force : Force) → GoesByLine true (Promote n force) at old new)
+    → OnErr r ((n : NodeNo) (force : Force) → GoesByLine (is_some kept) (Promote n force) at old new)
+some_replayed (Ok x) at old new kept found lacks goes = tt
+some_replayed (Err e) at old new kept found lacks goes = λ n force. some_lacking at old new kept found n force lacks (goes n force)
 
 pub added_none : (logged : Bool) (command : LineCommand) (at : At) (old new : Log) → new ≡ old → GoesByLine logged command at old new
 added_none logged command at old new same = record { more = []; log = same; adds = tt }

@@ -1,20 +1,21 @@
 -- What a promotion accepts again: the records of the log that its point lacks.
-use Rattle.std.specs.Prelude.{ℕ, ◌≡◌, ◌≢◌, ◌∷◌, List, [], true, ⊤, Option, Some, None, drop, length}
+use Rattle.std.specs.Prelude.{ℕ, ◌≡◌, ◌≢◌, ◌+◌, ◌∷◌, Bool, List, [], true, ⊤, Option, Some, None, drop, length}
 use Rattle.nrt_base.specs.declared.numbers.At.{At}
 use Rattle.nrt_base.specs.declared.numbers.NodeNo.{NodeNo}
 use Rattle.documents.specs.declared.operation.Op.{Op}
 use Rattle.history_rules.specs.declared.entry.Event.{Event}
-use Rattle.history_rules.specs.declared.entry.Event.TheVariants.{Promoted}
-use Rattle.history_rules.specs.Nodes.{Past, primary_of}
+use Rattle.history_rules.specs.declared.entry.Event.TheVariants.{Accepted, Promoted}
+use Rattle.history_rules.specs.Nodes.{Past, primary_of, accepted_count}
 use Rattle.history_rules.specs.Lines.{is_answered, start_entry}
 use Rattle.history_rules.specs.Points.{operations_at}
-use Rattle.history_book.specs.Log.{Log, printed}
+use Rattle.history_book.specs.Log.{Log, printed, shown}
 use Rattle.script_serving.specs.declared.script.Force.{Force}
 use Rattle.script_serving.specs.declared.script.LineCommand.TheVariants.{Promote}
-use Rattle.script_serving.specs.Replays.{logged_operations, replay_due}
+use Rattle.script_serving.specs.Replays.{logged_operations, replay_due, due}
 use Rattle.script_serving.specs.Serves.{is_newest_at}
 use Rattle.trans_log.specs.declared.record.LogOp.{LogOp}
 use Rattle.lane_threads.specs.Owes.{GoesByLine}
+use Rattle.cluster_recovery.specs.PromoteCalls.{promote_event}
 use Rattle.cluster_site.specs.Sites.{operations_in}
 
 -- the version of the point that an event promotes a node to
@@ -55,10 +56,24 @@ abbrev pub OwesLacking : At → Past → Option (List LogOp) → Type 0
 OwesLacking at past None = ⊤
 OwesLacking at past (Some records) = OwesRecords at past records (newest_promoted past)
 
--- since this log the line of a promotion has accepted again, and these operations are left
+-- the log once the line has accepted these operations behind it, each numbered one above the last
+abbrev pub with_accepted : At → List Op → Log → Log
+with_accepted at [] log = log
+with_accepted at (op ∷ ops) log = with_accepted at ops (shown at (Accepted (accepted_count (printed log) + 1) op) ∷ log)
+
+-- the log once the line has accepted behind it all that is due to be accepted again
+abbrev pub with_replay : At → Bool → Log → Log
+with_replay at logged log = with_accepted at (due logged (printed log)) log
+
+-- the log with what a line does that promotes a node, and all that is then due to be accepted again
+abbrev pub with_promotion : At → NodeNo → Force → Bool → Log → Log
+with_promotion at n force logged log = with_replay at logged (shown at (promote_event at.lane.0 n force (printed log)) ∷ log)
+
+-- since this log the line of a promotion has accepted again, and these operations are left of what was due there
 pub record ReplaysTo (at : At) (base now : Log) (left : List Op) : Type 0 where
   pub may : MayAcceptAgain at (printed now)
   pub due : replay_due (printed now) ≡ left
+  pub whole : with_accepted at left now ≡ with_replay at true base
   pub logged : logged_operations (printed now) ≡ logged_operations (printed base)
   pub goes : (n : NodeNo) (force : Force) → GoesByLine true (Promote n force) at base now
 

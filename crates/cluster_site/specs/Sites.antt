@@ -1,10 +1,10 @@
 -- A cluster and the log of what it accepts: what callers see of both, what is true of them, and what a call does.
-use Rattle.std.specs.Prelude.{◌≡◌, List, [], ◌∷◌, ◌++◌, Bool, false, Option, Some, None, ⊤, map, is_some}
+use Rattle.std.specs.Prelude.{◌≡◌, ◌+◌, List, [], ◌∷◌, ◌++◌, Bool, false, if◌then◌else◌, Option, Some, None, ⊤, map, is_some}
 use Rattle.nrt_base.specs.declared.numbers.At.{At}
 use Rattle.documents.specs.declared.operation.Op.{Op}
 use Rattle.disk_model.specs.Disk.{Cells}
 use Rattle.disk_model.specs.Faults.{Plans}
-use Rattle.history_rules.specs.Nodes.{Past}
+use Rattle.history_rules.specs.Nodes.{Past, accepted_count, generation_of, primary_of}
 use Rattle.history_book.specs.Log.{printed, name_by}
 use Rattle.script_serving.specs.declared.script.LineCommand.{LineCommand}
 use Rattle.script_serving.specs.Replays.{logged_operations, replay_due}
@@ -46,6 +46,11 @@ records_of (Some l) = Some l.records.items
 abbrev pub with_record : LogOp → Option (List LogOp) → Option (List LogOp)
 with_record r None = None
 with_record r (Some records) = Some (records ++ r ∷ [])
+
+-- the records behind a line that writes: one more where a primary runs, with the generation and the number of the line's entry
+abbrev pub with_next : Op → Past → Option (List LogOp) → Option (List LogOp)
+with_next op past kept =
+    if is_some (primary_of past) then with_record (record { generation = record { 0 = generation_of past }; seq = accepted_count past + 1; op = op }) kept else kept
 
 module _ {D : Type 0} (cells : D → Cells) (plans : D → Option Plans) where
   -- the log goes on: the files of its directory are its records, a crash leaves them, and no fault is planned there

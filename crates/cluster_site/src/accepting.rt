@@ -51,15 +51,15 @@ fn note<D: Dir>(log: &mut Option<TransLog<D>>, entry: &LogOp) -> Result<(), NoMe
 }
 
 impl<D: FaultDir + Drop> Site<D> {
-    ghost use Rattle.std.specs.Prelude.{◌≡◌, ◌+◌, ◌∷◌, [], false, OnOk, OnErr};
+    ghost use Rattle.std.specs.Prelude.{◌≡◌, ◌+◌, ◌<◌, ◌^◌, ◌∷◌, [], false, OnOk, OnErr};
     ghost use Rattle.history_rules.specs.Nodes.{accepted_count};
     ghost use Rattle.history_rules.specs.Lines.{entries_of_line};
     ghost use Rattle.history_book.specs.Log.{printed, shown};
     ghost use Rattle.script_serving.specs.Refusals.{without_primary};
-    ghost use Rattle.cluster_state.specs.Run.{IsNow, IsEnded};
+    ghost use Rattle.cluster_state.specs.Run.{IsNow, KeepsRest, IsEnded};
     ghost use Rattle.cluster_state.specs.Calls.{by_refusal};
     ghost use Rattle.cluster_core.specs.Doing.{IsReplied, writing_command};
-    ghost use Rattle.cluster_site.specs.Sites.{DoesAtSite};
+    ghost use Rattle.cluster_site.specs.Sites.{DoesAtSite, with_next};
 
     /// Accepts an operation: a put, a delete or a drop. Where a primary runs, the log has it before.
     pub fn accept(&mut self, alloc: Global, at: At, op: Op) -> Result<(), NoMemory>
@@ -68,7 +68,10 @@ impl<D: FaultDir + Drop> Site<D> {
         ensures ok { OnOk result (IsNow self.old.run self.new.run (shown at
             (by_refusal (without_primary (printed self.old.run.log))
             (Event.Accepted (accepted_count (printed self.old.run.log) + 1) op)) ∷ self.old.run.log)) }
+        ensures rest { OnOk result (KeepsRest self.old.run self.new.run) }
         ensures err { OnErr result (IsEnded self.old.run self.new.run) }
+        ensures kept { accepted_count (printed self.old.run.log) + 1 < 2 ^ 32 → OnOk result
+            (self.new.kept ≡ with_next op (printed self.old.run.log) self.old.kept) }
 
         // what the line is owed
         ensures does { OnOk result (DoesAtSite (writing_command op) at self.old self.new) }
@@ -82,11 +85,16 @@ impl<D: FaultDir + Drop> Site<D> {
             seq,
             op,
         };
-        if note(&mut self.log, &entry).is_err() {
-            self.cluster.end();
-            return Err(AllocError);
+        match note(&mut self.log, &entry) {
+            Ok(()) => {
+                let LogOp { op, .. } = entry;
+                self.cluster.accept(alloc, at, op)
+            }
+            Err(fault) => {
+                drop(entry);
+                self.cluster.end();
+                Err(fault)
+            }
         }
-        let LogOp { op, .. } = entry;
-        self.cluster.accept(alloc, at, op)
     }
 }

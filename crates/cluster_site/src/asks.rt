@@ -19,7 +19,7 @@ impl<D: FaultDir + Drop> Site<D> {
     ghost use Rattle.history_book.specs.Log.{printed, shown};
     ghost use Rattle.script_serving.specs.declared.script.LineCommand.{LineCommand};
     ghost use Rattle.script_serving.specs.declared.script.LineCommand.TheVariants.{Open, Close, Search, Ask, Files};
-    ghost use Rattle.cluster_state.specs.Run.{IsNow, IsEnded};
+    ghost use Rattle.cluster_state.specs.Run.{IsNow, KeepsRest, IsEnded};
     ghost use Rattle.cluster_core.specs.Doing.{IsReplied, IsRepliedAtDone, IsBegunAtWork, AsksFor};
     ghost use Rattle.cluster_site.specs.Sites.{DoesAtSite};
     ghost use Rattle.cluster_state.specs.Calls.{open_event, ListsFiles, SearchStarts, AskStarts, asked_event, close_by, ScansAt, AnswerEnds};
@@ -39,6 +39,7 @@ impl<D: FaultDir + Drop> Site<D> {
         requires number { t.0 ≢ 0 }
         ensures ok { OnOk result (IsNow self.old.run self.new.run (shown at
             (open_event at.lane.0 n t (printed self.old.run.log)) ∷ self.old.run.log)) }
+        ensures rest { OnOk result (KeepsRest self.old.run self.new.run) }
         ensures err { OnErr result (IsEnded self.old.run self.new.run) }
 
         // what the line is owed
@@ -59,6 +60,7 @@ impl<D: FaultDir + Drop> Site<D> {
         requires fresh { entries_of_line at (printed self.old.run.log) ≡ [] }
         requires node { IsNode self.old.run.nodes n.0 }
         ensures ok { IfOk result (SearchStarts at n self.old.run self.new.run) }
+        ensures rest { OnOk result (KeepsRest self.old.run self.new.run) }
         ensures err { OnErr result (IsEnded self.old.run self.new.run) }
 
         // what the line is owed, whatever it searches for
@@ -80,6 +82,7 @@ impl<D: FaultDir + Drop> Site<D> {
         requires running { self.old.run.ended ≡ false }
         requires fresh { entries_of_line at (printed self.old.run.log) ≡ [] }
         ensures ok { IfOk result (AskStarts at t self.old.run self.new.run) }
+        ensures rest { OnOk result (KeepsRest self.old.run self.new.run) }
         ensures err { OnErr result (IsEnded self.old.run self.new.run) }
 
         // what the line is owed, whatever it searches for
@@ -104,6 +107,7 @@ impl<D: FaultDir + Drop> Site<D> {
             (last_of_line at (printed self.old.run.log)) query.now answer }
         ensures ok { OnOk result (AnswerEnds at (last_of_line at (printed self.old.run.log))
             query.now answer self.old.run self.new.run) }
+        ensures rest { OnOk result (KeepsRest self.old.run self.new.run) }
         ensures err { OnErr result (IsEnded self.old.run self.new.run) }
 
         // what the line is owed
@@ -121,6 +125,7 @@ impl<D: FaultDir + Drop> Site<D> {
         requires fresh { entries_of_line at (printed self.old.run.log) ≡ [] }
         ensures ok { OnOk result (IsNow self.old.run self.new.run (shown at
             (close_by t (open_ticket at.lane.0 t.0 (printed self.old.run.log))) ∷ self.old.run.log)) }
+        ensures rest { OnOk result (KeepsRest self.old.run self.new.run) }
         ensures err { OnErr result (IsEnded self.old.run self.new.run) }
 
         // what the line is owed
@@ -136,6 +141,7 @@ impl<D: FaultDir + Drop> Site<D> {
         requires fresh { entries_of_line at (printed self.old.run.log) ≡ [] }
         requires node { IsNode self.old.run.nodes n.0 }
         ensures ok { OnOk result (ListsFiles at n self.old.run self.new.run) }
+        ensures rest { OnOk result (KeepsRest self.old.run self.new.run) }
         ensures err { OnErr result (IsEnded self.old.run self.new.run) }
 
         // what the line is owed

@@ -6,6 +6,7 @@ mod asks;
 mod copying;
 mod lasting;
 mod merging;
+mod opening;
 mod promoting;
 mod publishing;
 mod replaying;

@@ -10,7 +10,7 @@ use seg_merge::Merged;
 use std::alloc::Global;
 
 impl<D: FaultDir + Drop> Site<D> {
-    ghost use Rattle.std.specs.Prelude.{◌≡◌, ◌≤◌, [], false, IfOk, OnOk, OnErr};
+    ghost use Rattle.std.specs.Prelude.{◌≡◌, ◌≤◌, [], false, Some, IfOk, OnOk, OnErr};
     ghost use Rattle.copy_state.specs.Meta.{IsMetaOf};
     ghost use Rattle.history_rules.specs.Nodes.{IsNode};
     ghost use Rattle.history_rules.specs.Lines.{entries_of_line};

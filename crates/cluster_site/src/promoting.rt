@@ -8,16 +8,16 @@ use script_serving::Force;
 use std::alloc::Global;
 
 impl<D: FaultDir + Drop> Site<D> {
-    ghost use Rattle.std.specs.Prelude.{◌≡◌, ◌∷◌, [], true, false, OnOk, OnErr};
+    ghost use Rattle.std.specs.Prelude.{◌≡◌, [], true, false, OnOk, OnErr};
     ghost use Rattle.history_rules.specs.Nodes.{IsNode};
     ghost use Rattle.history_rules.specs.Lines.{entries_of_line};
-    ghost use Rattle.history_book.specs.Log.{printed, shown};
+    ghost use Rattle.history_book.specs.Log.{printed};
     ghost use Rattle.script_serving.specs.declared.script.LineCommand.TheVariants.{Promote};
     ghost use Rattle.lane_threads.specs.Owes.{GoesByLine};
     ghost use Rattle.cluster_state.specs.Run.{IsNow};
-    ghost use Rattle.cluster_recovery.specs.PromoteCalls.{promote_event};
     ghost use Rattle.cluster_core.specs.Doing.{IsReplied};
     ghost use Rattle.cluster_site.specs.Sites.{DoesAtSite, is_logged};
+    ghost use Rattle.cluster_site.specs.Replays.{with_promotion};
 
     /// Promotes a node that runs, where no primary does. With a log the line then accepts again, in order, what the log has and the node's
     /// point lacks.
@@ -31,9 +31,10 @@ impl<D: FaultDir + Drop> Site<D> {
         requires running { self.old.run.ended ≡ false }
         requires fresh { entries_of_line at (printed self.old.run.log) ≡ [] }
         requires node { IsNode self.old.run.nodes n.0 }
-        ensures ok { is_logged self.old ≡ false → OnOk result (IsNow self.old.run self.new.run
-            (shown at (promote_event at.lane.0 n force (printed self.old.run.log)) ∷ self.old.run.log)) }
+        ensures ok { OnOk result (IsNow self.old.run self.new.run
+            (with_promotion at n force (is_logged self.old) self.old.run.log)) }
         ensures err { OnErr result (self.new.run.ended ≡ true) }
+        ensures nodes { self.new.run.nodes ≡ self.old.run.nodes }
 
         // what the line is owed
         ensures does { OnOk result (DoesAtSite (Promote n force) at self.old self.new) }

@@ -13,7 +13,7 @@ impl<D: FaultDir + Drop> Site<D> {
     ghost use Rattle.history_rules.specs.Lines.{entries_of_line, last_of_line};
     ghost use Rattle.history_book.specs.Log.{printed};
     ghost use Rattle.script_serving.specs.declared.script.LineCommand.TheVariants.{Publish};
-    ghost use Rattle.cluster_state.specs.Run.{IsEnded};
+    ghost use Rattle.cluster_state.specs.Run.{KeepsRest, IsEnded};
     ghost use Rattle.cluster_state.specs.Writes.{IsFlushed};
     ghost use Rattle.cluster_core.specs.Doing.{IsReplied, IsRepliedAtDone, IsBegunAtWork};
     ghost use Rattle.cluster_site.specs.Sites.{DoesAtSite};
@@ -25,6 +25,7 @@ impl<D: FaultDir + Drop> Site<D> {
         requires running { self.old.run.ended ≡ false }
         requires fresh { entries_of_line at (printed self.old.run.log) ≡ [] }
         ensures ok { IfOk result (PublishStarts at self.old.run self.new.run) }
+        ensures rest { OnOk result (KeepsRest self.old.run self.new.run) }
         ensures err { OnErr result (IsEnded self.old.run self.new.run) }
 
         // what the line is owed

@@ -65,7 +65,8 @@ fn newest_promotion(entries: &[Entry]) -> Option<Version>
 
 // The count, or how many there are where these are less.
 fn at_most(count: usize, len: u32) -> u32
-    ensures { (result ≡ count) ⊎ ((len ≤ count) × (result ≡ len)) }
+    ensures count { (result ≡ count) ⊎ ((len ≤ count) × (result ≡ len)) }
+    ensures within { result ≤ len }
 {
     if count < len as usize {
         count as u32

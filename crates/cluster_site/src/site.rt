@@ -4,6 +4,7 @@ ghost use Rattle.std.specs.Prelude.{reverse};
 ghost use Rattle.history_book.specs.Log.{name_of};
 ghost use Rattle.cluster_site.specs.Sites.{is_logged};
 
+use crate::opening::empty_log;
 use cluster_core::Cluster;
 use disk_model::FaultDir;
 use hist_lock::Grows;
@@ -73,7 +74,7 @@ impl<D: FaultDir + Drop> LaneRun for Site<D> {
 }
 
 impl<D: FaultDir + Drop> Site<D> {
-    ghost use Rattle.std.specs.Prelude.{◌≡◌, ◌≤◌, [], None, false, IfOk, length};
+    ghost use Rattle.std.specs.Prelude.{◌≡◌, ◌≤◌, [], None, Some, false, IfOk, length};
     ghost use Rattle.std.specs.List.{All};
     ghost use Rattle.history_rules.specs.Legal.{IsLegalPast};
     ghost use Rattle.history_book.specs.Log.{printed};
@@ -81,6 +82,7 @@ impl<D: FaultDir + Drop> Site<D> {
     ghost use Rattle.history_book.specs.Told.{IsTold};
     ghost use Rattle.lane_threads.specs.Owes.{FaultsFit};
     ghost use Rattle.cluster_state.specs.Starting.{IsEmptyDir};
+    ghost use Rattle.trans_log.specs.Logs.{SameLogs, IsCalm};
     ghost use Rattle.cluster_site.specs.Sites.{IsInStep};
 
     /// A cluster over these empty directories, without a log. Node 1 is the primary, and the others are replicas.
@@ -95,6 +97,27 @@ impl<D: FaultDir + Drop> Site<D> {
     {
         let cluster = Cluster::start(alloc, dirs)?;
         Ok(Site { cluster, log: None })
+    }
+
+    /// The same with a log in another empty directory, for which no fault is planned.
+    pub fn start_with_log(alloc: Global, dirs: Vec<D>, dir: D) -> Result<Self, NoMemory>
+        requires some { 2 ≤ length dirs.items }
+        requires few { length dirs.items ≤ 16 }
+        requires empty { All (λ dir. IsEmptyDir (D.cells dir)) dirs.items }
+        requires log { IsEmptyDir (D.cells dir) }
+        requires same { SameLogs (D.cells dir) }
+        requires calm { IsCalm (D.plans dir) }
+        ensures running { IfOk result (λ s. s.run.ended ≡ false) }
+        ensures nodes { IfOk result (λ s. s.run.nodes ≡ length dirs.items) }
+        ensures log { IfOk result (λ s. s.run.log ≡ []) }
+        ensures kept { IfOk result (λ s. s.kept ≡ Some []) }
+    {
+        let log = empty_log(alloc, dir)?;
+        let cluster = Cluster::start(alloc, dirs)?;
+        Ok(Site {
+            cluster,
+            log: Some(log),
+        })
     }
 
     /// Whether it has ended. Its history is legal also then; and while it has not, the log is in step with it.

@@ -3,7 +3,7 @@ use Rattle.std.specs.Prelude.{OnErr, OnOk}
 use Rattle.history_book.specs.Log.{printed}
 use Rattle.history_rules.specs.Lines.{last_of_line}
 use Rattle.cluster_state.specs.Calls.{AnswerEnds}
-use Rattle.cluster_state.specs.Run.{IsEnded}
+use Rattle.cluster_state.specs.Run.{IsEnded, KeepsRest}
 use Rattle.cluster_site.proofs.Asked.{asks_quiet, asked_for, asks_in, scans_in}
 use Rattle.cluster_site.proofs.Stands.{call_stands, call_does}
 use Rattle.cluster_site.specs.Sites.{SiteRun}
@@ -24,6 +24,9 @@ returns-clause-does g c = λ command asks. call_does g.D.Dir.cells g.D.Dir.plans
 pub returns-clause-ok : goal.returns-clause-ok
 returns-clause-ok g c =
     subst (λ (s : SiteRun). OnOk c.answer_end.result (AnswerEnds c.args.at (last_of_line c.args.at (printed s.run.log)) c.args.query.now c.args.answer s.run c.answer_end.new.self)) c.self.view_is c.answer_end.ensures.ok
+
+pub returns-clause-rest : goal.returns-clause-rest
+returns-clause-rest g c = subst (λ (s : SiteRun). OnOk c.answer_end.result (KeepsRest s.run c.answer_end.new.self)) c.self.view_is c.answer_end.ensures.rest
 
 pub returns-clause-err : goal.returns-clause-err
 returns-clause-err g c =

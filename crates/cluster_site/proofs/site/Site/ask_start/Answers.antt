@@ -1,11 +1,11 @@
 use Rattle.std.proofs.Common.{refl, [], subst}
-use Rattle.std.specs.Prelude.{IfOk, OnErr}
+use Rattle.std.specs.Prelude.{IfOk, OnErr, OnOk}
 use Rattle.documents.specs.declared.query.Query.TheVariants.{Word}
 use Rattle.history_book.specs.Log.{printed}
 use Rattle.history_rules.specs.Tickets.{open_ticket}
 use Rattle.script_serving.specs.declared.script.LineCommand.TheVariants.{Ask}
 use Rattle.cluster_state.specs.Calls.{AskStarts, asked_event}
-use Rattle.cluster_state.specs.Run.{IsEnded}
+use Rattle.cluster_state.specs.Run.{IsEnded, KeepsRest}
 use Rattle.cluster_core.specs.Doing.{IsBegunAtWork}
 use Rattle.cluster_site.proofs.Stands.{call_stands, call_does}
 use Rattle.cluster_site.specs.Sites.{SiteRun}
@@ -22,6 +22,9 @@ returns-clause-does g c = λ query. call_does g.D.Dir.cells g.D.Dir.plans c.self
 pub returns-clause-ok : goal.returns-clause-ok
 returns-clause-ok g c =
     subst (λ (s : SiteRun). IfOk c.ask_start.result (AskStarts c.args.at c.args.t s.run c.ask_start.new.self)) c.self.view_is c.ask_start.ensures.ok
+
+pub returns-clause-rest : goal.returns-clause-rest
+returns-clause-rest g c = subst (λ (s : SiteRun). OnOk c.ask_start.result (KeepsRest s.run c.ask_start.new.self)) c.self.view_is c.ask_start.ensures.rest
 
 pub returns-clause-err : goal.returns-clause-err
 returns-clause-err g c =

@@ -1,8 +1,8 @@
 use Rattle.std.proofs.Common.{refl, subst}
-use Rattle.std.specs.Prelude.{IfOk, OnErr}
+use Rattle.std.specs.Prelude.{IfOk, OnErr, OnOk}
 use Rattle.script_serving.specs.declared.script.LineCommand.TheVariants.{Publish}
 use Rattle.cluster_state.specs.Calls.{PublishStarts}
-use Rattle.cluster_state.specs.Run.{IsEnded}
+use Rattle.cluster_state.specs.Run.{IsEnded, KeepsRest}
 use Rattle.cluster_site.proofs.Stands.{call_stands, call_does}
 use Rattle.cluster_site.specs.Sites.{SiteRun}
 use Rattle.cluster_site.proofs.site.Site.publish_start.Goals as goal
@@ -18,6 +18,9 @@ returns-clause-does g c = call_does g.D.Dir.cells g.D.Dir.plans c.self.inside.cl
 pub returns-clause-ok : goal.returns-clause-ok
 returns-clause-ok g c =
     subst (λ (s : SiteRun). IfOk c.publish_start.result (PublishStarts c.args.at s.run c.publish_start.new.self)) c.self.view_is c.publish_start.ensures.ok
+
+pub returns-clause-rest : goal.returns-clause-rest
+returns-clause-rest g c = subst (λ (s : SiteRun). OnOk c.publish_start.result (KeepsRest s.run c.publish_start.new.self)) c.self.view_is c.publish_start.ensures.rest
 
 pub returns-clause-err : goal.returns-clause-err
 returns-clause-err g c =

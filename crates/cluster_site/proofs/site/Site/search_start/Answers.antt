@@ -1,9 +1,9 @@
 use Rattle.std.proofs.Common.{refl, [], subst}
-use Rattle.std.specs.Prelude.{IfOk, OnErr}
+use Rattle.std.specs.Prelude.{IfOk, OnErr, OnOk}
 use Rattle.documents.specs.declared.query.Query.TheVariants.{Word}
 use Rattle.script_serving.specs.declared.script.LineCommand.TheVariants.{Search}
 use Rattle.cluster_state.specs.Calls.{SearchStarts}
-use Rattle.cluster_state.specs.Run.{IsEnded}
+use Rattle.cluster_state.specs.Run.{IsEnded, KeepsRest}
 use Rattle.cluster_site.proofs.Stands.{call_stands, call_does}
 use Rattle.cluster_site.specs.Sites.{SiteRun}
 use Rattle.cluster_site.proofs.site.Site.search_start.Goals as goal
@@ -19,6 +19,9 @@ returns-clause-does g c = λ query. call_does g.D.Dir.cells g.D.Dir.plans c.self
 pub returns-clause-ok : goal.returns-clause-ok
 returns-clause-ok g c =
     subst (λ (s : SiteRun). IfOk c.search_start.result (SearchStarts c.args.at c.args.n s.run c.search_start.new.self)) c.self.view_is c.search_start.ensures.ok
+
+pub returns-clause-rest : goal.returns-clause-rest
+returns-clause-rest g c = subst (λ (s : SiteRun). OnOk c.search_start.result (KeepsRest s.run c.search_start.new.self)) c.self.view_is c.search_start.ensures.rest
 
 pub returns-clause-err : goal.returns-clause-err
 returns-clause-err g c =

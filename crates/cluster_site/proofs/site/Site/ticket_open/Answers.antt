@@ -3,7 +3,7 @@ use Rattle.std.specs.Prelude.{OnErr, OnOk}
 use Rattle.history_book.specs.Log.{printed, shown}
 use Rattle.script_serving.specs.declared.script.LineCommand.TheVariants.{Open}
 use Rattle.cluster_state.specs.Calls.{open_event}
-use Rattle.cluster_state.specs.Run.{IsEnded, IsNow}
+use Rattle.cluster_state.specs.Run.{IsEnded, IsNow, KeepsRest}
 use Rattle.cluster_site.proofs.Stands.{call_stands, call_does}
 use Rattle.cluster_site.specs.Sites.{SiteRun}
 use Rattle.cluster_site.proofs.site.Site.ticket_open.Goals as goal
@@ -19,6 +19,9 @@ returns-clause-does g c = call_does g.D.Dir.cells g.D.Dir.plans c.self.inside.cl
 pub returns-clause-ok : goal.returns-clause-ok
 returns-clause-ok g c =
     subst (λ (s : SiteRun). OnOk c.ticket_open.result (IsNow s.run c.ticket_open.new.self (shown c.args.at (open_event c.args.at.lane.0 c.args.n c.args.t (printed s.run.log)) ∷ s.run.log))) c.self.view_is c.ticket_open.ensures.ok
+
+pub returns-clause-rest : goal.returns-clause-rest
+returns-clause-rest g c = subst (λ (s : SiteRun). OnOk c.ticket_open.result (KeepsRest s.run c.ticket_open.new.self)) c.self.view_is c.ticket_open.ensures.rest
 
 pub returns-clause-err : goal.returns-clause-err
 returns-clause-err g c =
