@@ -36,6 +36,6 @@ step_shows at task old new Done begun steps replied = replied
 step_shows at task old new Busy begun steps replied = absurd steps
 
 -- the node of what was handed out is the one that the line commits
-pub on_node : {T E : Type 0} {logged : Bool} {g : Ghosts SiteRun Mark} (lock : HistLock SiteRun Mark) (at : At) (m n : NodeNo) (r : Result T E) (before after : LaneSeat SiteRun Mark g) → m ≡ n
+pub on_node : {T E : Type 0} {g : Ghosts SiteRun Mark} (logged : Bool) (lock : HistLock SiteRun Mark) (at : At) (m n : NodeNo) (r : Result T E) (before after : LaneSeat SiteRun Mark g) → m ≡ n
     → OnOk r (EndsItsLine logged lock (Commit m) at before after) → OnOk r (EndsItsLine logged lock (Commit n) at before after)
-on_node {logged = logged} lock at m n r before after is ends = subst (λ (k : NodeNo). OnOk r (EndsItsLine logged lock (Commit k) at before after)) is ends
+on_node logged lock at m n r before after is ends = subst (λ (k : NodeNo). OnOk r (EndsItsLine logged lock (Commit k) at before after)) is ends

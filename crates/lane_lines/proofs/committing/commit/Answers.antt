@@ -42,4 +42,4 @@ returns-in-Work g c =
     subst (λ (turn : Turn CommitTask). TurnsLine c.args.lanes.now.setup.log (IsCommitting c.args.at c.args.n) (IsUnbegunIn c.args.at) c.args.lanes.now.lock.now (Commit c.args.n) c.args.at c.loop.seat c.start.new.seat turn) c.in-Work.is c.in_ok-start.ensures in
     on_takes_ends c.args.lanes.now.lock.now (Commit c.args.n) c.args.at c.args.seat.now c.start.new.seat c.finish.new.seat
     (takes_then c.args.lanes.now.lock.now (Commit c.args.n) c.args.at c.args.seat.now c.loop.seat c.start.new.seat c.loop.invariant (IsCommitting c.args.at c.args.n c.in-Work.task) turns) c.finish.result
-    (on_node c.args.lanes.now.lock.now c.args.at c.in-Work.task.node c.args.n c.finish.result c.start.new.seat c.finish.new.seat turns.now.node c.finish.ensures)
+    (on_node c.args.lanes.now.setup.log c.args.lanes.now.lock.now c.args.at c.in-Work.task.node c.args.n c.finish.result c.start.new.seat c.finish.new.seat turns.now.node c.finish.ensures)
