@@ -36,7 +36,7 @@ module _ (lane : ℕ) (by : Option At) where
   silent_apart none (TaskFault e ∷ more) h = (unnamed lane, silent_apart none more h.1)
   silent_apart none (Kept i ∷ more) h = (h.0 none, silent_apart none more h.1)
 
-module _ {logged : Bool} (lane : ℕ) (by : Option At) where
+module _ (logged : Bool) (lane : ℕ) (by : Option At) where
   task_silent : (more old : Log) → AddsByTask logged (name_by by) more old → AllByRecursion (IsSilent lane by) more
   task_silent [] old h = tt
   task_silent (Shown e ∷ more) old h = absurd h
@@ -46,6 +46,7 @@ module _ {logged : Bool} (lane : ℕ) (by : Option At) where
     task_silent more old h.1,
   )
 
+module _ {logged : Bool} (lane : ℕ) (by : Option At) where
   pub silent_first : (log : Log) → FaultsFit logged log → GrowsSilently logged lane by log log
   silent_first log faults = record { more = []; log = refl; silent = tt; faults = faults }
 
@@ -62,7 +63,7 @@ module _ {logged : Bool} (lane : ℕ) (by : Option At) where
   pub section_silent : (before found new : Log) → GrowsByOthers logged lane before found → GoesByTask logged (name_by by) found new → GrowsSilently logged lane by before new
   section_silent before found new apart goes =
       silent_then before found new (record { more = apart.more; log = apart.log; silent = others_silent lane by apart.more apart.apart; faults = apart.faults })
-      (record { more = goes.more; log = goes.log; silent = task_silent goes.more found goes.adds; faults = task_faults logged (name_by by) found new apart.faults goes })
+      (record { more = goes.more; log = goes.log; silent = task_silent logged lane by goes.more found goes.adds; faults = task_faults logged (name_by by) found new apart.faults goes })
 
   pub silent_others : by ≡ None → (old new : Log) → GrowsSilently logged lane by old new → GrowsByOthers logged lane old new
   silent_others none old new h = record { more = h.more; log = h.log; apart = silent_apart lane by none h.more h.silent; faults = h.faults }

@@ -105,10 +105,10 @@ module _ {g : Ghosts SiteRun Mark} {logged : Bool} (size : ℕ) (lock : HistLock
         };
       }
 
-  pub on_copy_ended : {T E : Type 0} (n : NodeNo) (r : Result T E) (b c : LaneSeat SiteRun Mark g) → BeginsCopy at n task (log_seen b) → OnOk r (StepsJob logged size lock at task (IsCopyReplied at) b c)
-      → OnOk r (EndsItsLine logged lock (Copy n) at b c)
-  on_copy_ended n (Ok x) b c begins k = copy_ended n b c begins k
-  on_copy_ended n (Err x) b c begins k = tt
+pub on_copy_ended : {T E : Type 0} {g : Ghosts SiteRun Mark} (logged : Bool) (size : ℕ) (lock : HistLock SiteRun Mark) (at : At) (task : CopyTask) (n : NodeNo) (r : Result T E) (b c : LaneSeat SiteRun Mark g) → BeginsCopy at n task (log_seen b)
+    → OnOk r (StepsJob logged size lock at task (IsCopyReplied at) b c) → OnOk r (EndsItsLine logged lock (Copy n) at b c)
+on_copy_ended logged size lock at task n (Ok x) b c begins k = copy_ended size lock at task n b c begins k
+on_copy_ended logged size lock at task n (Err x) b c begins k = tt
 
 -- ---- settles
 

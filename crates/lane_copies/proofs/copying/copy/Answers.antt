@@ -42,4 +42,4 @@ returns-in-Work g c =
     subst (λ (turn : Turn CopyTask). TurnsLine c.args.lanes.now.setup.log (BeginsCopy c.args.at c.args.n) (IsUnbegunIn c.args.at) c.args.lanes.now.lock.now (Copy c.args.n) c.args.at c.loop.seat c.start.new.seat turn) c.in-Work.is c.in_ok-start.ensures in
     on_takes_ends c.args.lanes.now.lock.now (Copy c.args.n) c.args.at c.args.seat.now c.start.new.seat c.bring_over.new.seat
     (takes_then c.args.lanes.now.lock.now (Copy c.args.n) c.args.at c.args.seat.now c.loop.seat c.start.new.seat c.loop.invariant (BeginsCopy c.args.at c.args.n c.in-Work.task) turns) c.bring_over.result
-    (on_copy_ended c.args.lanes.now.setup.nodes c.args.lanes.now.lock.now c.args.at c.in-Work.task c.args.n c.bring_over.result c.start.new.seat c.bring_over.new.seat turns.now c.bring_over.ensures)
+    (on_copy_ended c.args.lanes.now.setup.log c.args.lanes.now.setup.nodes c.args.lanes.now.lock.now c.args.at c.in-Work.task c.args.n c.bring_over.result c.start.new.seat c.bring_over.new.seat turns.now c.bring_over.ensures)
