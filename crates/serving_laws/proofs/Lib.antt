@@ -1,4 +1,4 @@
 mod FitLemmas
 mod PlainServingLaws
 mod ReplayLemmas
-mod Unprinted
+pub mod Unprinted
