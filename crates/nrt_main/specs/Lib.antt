@@ -3,6 +3,7 @@ pub mod Headline
 pub mod Frames
 pub mod Check
 pub mod Load
+pub mod Judge
 pub mod Rows
 pub mod Statuses
 pub mod TopCalls

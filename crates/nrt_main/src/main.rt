@@ -8,6 +8,7 @@ ghost use Rattle.nrt_main.specs.Statuses.{cause_number};
 mod built;
 mod checking;
 mod gate;
+mod judging;
 mod loading;
 mod message;
 mod reading;
@@ -31,7 +32,8 @@ use index_check::check_image;
 use line_advice::advice;
 use nrt_base::LineNo;
 use nrt_streams::Arg;
-use script_text::LineFault;
+use report_judge::{cut_source, explain as why, judge};
+use script_text::{LineFault, parse_script};
 use std::process::ExitCode;
 use std::{env, io};
 
@@ -79,6 +81,21 @@ fn explain_image(rt: &HostRuntime, image: &[u8]) -> io::Result<()> {
     }
 }
 
+/// Says where the report of a source goes wrong, and why.
+fn explain_report(rt: &HostRuntime, source: &[u8]) -> io::Result<()> {
+    let source = cut_source(source);
+    let Ok(script) = parse_script(rt.alloc(), source.script) else {
+        return Ok(());
+    };
+    let Ok(judgement) = judge(rt.alloc(), &script, source.report) else {
+        return Ok(());
+    };
+    match why(rt.alloc(), &script, source.report, &judgement) {
+        Ok(text) => eprintln!(rt; "nrt: {}", text.as_str()),
+        Err(_) => Ok(()),
+    }
+}
+
 /// Says on standard error why not all was done. Who reads the output may leave without a word.
 fn explain(rt: &HostRuntime, status: Status, input: &[u8], is_broken: bool) -> io::Result<()> {
     match status {
@@ -88,7 +105,8 @@ fn explain(rt: &HostRuntime, status: Status, input: &[u8], is_broken: bool) -> i
             eprintln!(rt; "usage: nrt run < SCRIPT")?;
             eprintln!(rt; "       nrt frames < STREAM")?;
             eprintln!(rt; "       nrt check < IMAGE")?;
-            eprintln!(rt; "       nrt load N, N from 1 to 10000")
+            eprintln!(rt; "       nrt load N, N from 1 to 10000")?;
+            eprintln!(rt; "       nrt judge < SCRIPT_AND_REPORT")
         }
         Status::BadScript(line, cause) => explain_line(rt, input, line, cause),
         Status::BadStream(_) => {
@@ -96,6 +114,7 @@ fn explain(rt: &HostRuntime, status: Status, input: &[u8], is_broken: bool) -> i
             eprintln!(rt; "nrt: {}", stream_fault(rt.alloc(), input))
         }
         Status::BadIndex => explain_image(rt, input),
+        Status::BadReport => explain_report(rt, input),
         _ => eprintln!(rt; "nrt: {}", status),
     }
 }

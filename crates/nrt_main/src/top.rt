@@ -8,12 +8,14 @@ ghost use Rattle.nrt_main.specs.Headline.{Ran, Answers, RanInPart, AnswersInPart
 ghost use Rattle.wire_frames.specs.Runs.{GaveBadStream, GaveMore};
 ghost use Rattle.nrt_main.specs.Frames.{IsFrames, RanFrames, RanFramesInPart, IsFramesAnswer};
 ghost use Rattle.nrt_main.specs.Check.{IsCheck, RanCheck, FoundWrong, RanCheckInPart, GaveNoImage, AnswersCheck};
+ghost use Rattle.nrt_main.specs.Judge.{IsJudge, RanJudge, FoundIllegal, RanJudgeInPart, RefusesJudge, AnswersJudge};
 ghost use Rattle.nrt_main.specs.Load.{IsLoad, IsLoadOf, LeavesSummary, LeavesSummaryInPart, IsLoadAnswer};
 ghost use Rattle.nrt_main.specs.Rows.{IsKnownRow};
 ghost use Rattle.nrt_main.specs.TopCalls.{IsRefusal, IsReport, LeavesText, LeavesFront};
 
 use crate::built::first_not_built;
 use crate::checking::check_source;
+use crate::judging::judge_source;
 use crate::loading::{load, load_asked};
 use crate::reading::{ReadEnd, read_all};
 use crate::status::Status;
@@ -228,7 +230,11 @@ fn frames_source<S: Source, K: Sink>(alloc: Global, source: &mut S, sink: &mut K
 /// it is done, the totals that the sink gained are those of the scan over the documents that the script leaves, whatever the lanes'
 /// threads did in between, and `kept` has the cluster that ran it. But for want of memory a load is done, or the sink failed.
 ///
-/// On every answer but `Done`, `WriteFault` and `BadIndex` the sink is as before.
+/// `judge`: it reads a script, a line `report` and a report from the source, judges the report, and writes the line of the judgement to the
+/// sink. Where it is done, the source was read to its end, and the report is the text of a legal history that serves the script. `BadReport`
+/// says that it goes wrong, and the sink gained the line that says where and why.
+///
+/// On every answer but `Done`, `WriteFault`, `BadIndex` and `BadReport` the sink is as before.
 #[tactic(auto, using(crate::proofs::Loads::one_word, crate::proofs::Loads::no_word, crate::proofs::Loads::takes_none))]
 pub fn run_nrt<R: Threads + Wait + Sync, S: Source, K: Sink, G: Gate + Sync>(
     rt: &R,
@@ -300,14 +306,28 @@ pub fn run_nrt<R: Threads + Wait + Sync, S: Source, K: Sink, G: Gate + Sync>(
     ensures load_answers { IsLoad words.now → result ≢ Status.Memory → IsLoadAnswer result }
     ensures load_unread { IsLoad words.now → source.new ≡ source.old }
 
-    // All four.
+    // `judge`.
+    ensures judge_done { IsJudge words.now → result ≡ Status.Done → RanJudge (S.left source.old)
+        (S.left source.new) (K.held sink.old) (K.held sink.new) }
+    ensures judge_wrong { IsJudge words.now → result ≡ Status.BadReport → FoundIllegal
+        (S.left source.old) (S.left source.new) (K.held sink.old) (K.held sink.new) }
+    ensures judge_part { IsJudge words.now → result ≡ Status.WriteFault → RanJudgeInPart
+        (S.left source.old) (S.left source.new) (K.held sink.old) (K.held sink.new) }
+    ensures judge_bad { (n : LineNo) (cause : LineFault) → IsJudge words.now
+        → result ≡ Status.BadScript n cause
+        → RefusesJudge (S.left source.old) (S.left source.new) n.0 cause }
+    ensures judge_answers { IsJudge words.now → result ≢ Status.ReadFault
+        → result ≢ Status.TooLarge → result ≢ Status.Memory
+        → AnswersJudge (S.left source.old) (S.left source.new) result }
+
+    // All five.
     ensures read { result ≡ Status.ReadFault → S.fault_count source.old < S.fault_count source.new }
     ensures write { result ≡ Status.WriteFault → K.fault_count sink.old < K.fault_count sink.new }
     ensures large { result ≡ Status.TooLarge → TakesMore (S.left source.old) (S.left source.new) }
     ensures small { result ≢ Status.TooLarge → result ≢ Status.Memory → result ≢ Status.Usage
         → TakesWithin (S.left source.old) (S.left source.new) }
     ensures kept { result ≢ Status.Done → result ≢ Status.WriteFault → result ≢ Status.BadIndex
-        → sink.new ≡ sink.old }
+        → result ≢ Status.BadReport → sink.new ≡ sink.old }
 {
     if is_word(words, b"run") {
         run_source(rt, alloc, gate, source, sink, kept)
@@ -315,6 +335,8 @@ pub fn run_nrt<R: Threads + Wait + Sync, S: Source, K: Sink, G: Gate + Sync>(
         frames_source(alloc, source, sink)
     } else if is_word(words, b"check") {
         check_source(alloc, source, sink)
+    } else if is_word(words, b"judge") {
+        judge_source(alloc, source, sink)
     } else {
         match load_asked(words) {
             Some(n) => load(rt, alloc, gate, words, n, sink, kept),
