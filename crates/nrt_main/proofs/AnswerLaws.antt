@@ -44,7 +44,7 @@ ways_of : (bytes : List ℕ) (n : ℕ) (cause : LineFault) → RefusesLine bytes
 ways_of bytes n NotBuilt refused = inr (record { script = refused.0; grammar = refused.1; unbuilt = refused.2; kind = refl })
 ways_of bytes n cause refused = inl refused
 
-bad_script : (n m : LineNo) (cause other : LineFault) → n.0 ≡ m.0 → cause ≡ other → BadScript n cause ≡ BadScript m other
+pub bad_script : (n m : LineNo) (cause other : LineFault) → n.0 ≡ m.0 → cause ≡ other → BadScript n cause ≡ BadScript m other
 bad_script n m cause other lines causes =
     ap (λ (k : ℕ). let line : LineNo = record { 0 = k } in BadScript line cause) lines ∙ ap (BadScript m) causes
 

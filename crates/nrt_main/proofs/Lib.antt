@@ -1,5 +1,6 @@
 mod Writes
 mod BuiltScripts
+mod JudgeAnswers
 mod Leaving
 mod Loads
 mod AnswerLaws

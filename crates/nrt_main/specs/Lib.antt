@@ -4,6 +4,7 @@ pub mod Frames
 pub mod Check
 pub mod Complete
 pub mod Load
+pub mod Judge
 pub mod Rows
 pub mod Statuses
 pub mod TopCalls

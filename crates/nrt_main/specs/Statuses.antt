@@ -3,7 +3,7 @@ use Rattle.std.specs.Prelude.{ℕ}
 use Rattle.script_text.specs.declared.fault.LineFault.{LineFault}
 use Rattle.script_text.specs.declared.fault.LineFault.TheVariants.{NoNodes, Word, Count, Range, Query, Text, NotBuilt}
 use Rattle.nrt_main.specs.declared.status.Status.{Status}
-use Rattle.nrt_main.specs.declared.status.Status.TheVariants.{Done, Usage, BadScript, ReadFault, WriteFault, Memory, TooLarge, BadIndex, BadImage, BadStream}
+use Rattle.nrt_main.specs.declared.status.Status.TheVariants.{Done, Usage, BadScript, ReadFault, WriteFault, Memory, TooLarge, BadIndex, BadImage, BadStream, BadReport}
 
 -- the exit status of an answer
 abbrev pub exit_status : Status → ℕ
@@ -17,6 +17,7 @@ exit_status TooLarge = 7
 exit_status BadIndex = 8
 exit_status BadImage = 9
 exit_status (BadStream k) = 10
+exit_status BadReport = 11
 
 -- the number of the cause for which a line is refused
 abbrev pub cause_number : LineFault → ℕ

@@ -8,6 +8,7 @@ ghost use Rattle.nrt_main.specs.Statuses.{cause_number};
 mod built;
 mod checking;
 mod gate;
+mod judging;
 mod loading;
 mod message;
 mod reading;
@@ -31,7 +32,8 @@ use index_check::check_image;
 use line_advice::advice;
 use nrt_base::{LineNo, NoMemory};
 use nrt_streams::Arg;
-use script_text::LineFault;
+use report_judge::{cut_source, explain as why, judge};
+use script_text::{LineFault, parse_script};
 use std::alloc::Global;
 use std::process::ExitCode;
 use std::{env, io};
@@ -90,6 +92,21 @@ fn explain_image(rt: &HostRuntime, image: &[u8]) -> io::Result<()> {
     }
 }
 
+/// Says where the report of a source goes wrong, and why.
+fn explain_report(rt: &HostRuntime, source: &[u8]) -> io::Result<()> {
+    let source = cut_source(source);
+    let Ok(script) = parse_script(rt.alloc(), source.script) else {
+        return Ok(());
+    };
+    let Ok(judgement) = judge(rt.alloc(), &script, source.report) else {
+        return Ok(());
+    };
+    match why(rt.alloc(), &script, source.report, &judgement) {
+        Ok(text) => eprintln!(rt; "nrt: {}", text.as_str()),
+        Err(_) => Ok(()),
+    }
+}
+
 /// Says what is wrong with words that are no command.
 fn explain_words(rt: &HostRuntime, texts: &[String]) -> io::Result<()> {
     eprint!(rt; "{}", mistake(rt.alloc(), texts)?)
@@ -115,6 +132,7 @@ fn explain(rt: &HostRuntime, status: Status, seen: &Seen<'_>) -> io::Result<()> 
             eprintln!(rt; "nrt: {}", stream_fault(rt.alloc(), seen.input))
         }
         Status::BadIndex => explain_image(rt, seen.input),
+        Status::BadReport => explain_report(rt, seen.input),
         _ => eprintln!(rt; "nrt: {}", status),
     }
 }

@@ -42,6 +42,9 @@ pub enum Status {
     /// within a frame (4).
     #[error("bad stream, cause {0}")]
     BadStream(u8),
+    /// The report is not that of a legal history which serves the script, and the line that says where it goes wrong is written.
+    #[error("the report is not that of a legal history")]
+    BadReport,
 }
 
 impl Status {
@@ -60,6 +63,7 @@ impl Status {
             Status::BadIndex => 8,
             Status::BadImage => 9,
             Status::BadStream(_) => 10,
+            Status::BadReport => 11,
         }
     }
 }

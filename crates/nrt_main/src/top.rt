@@ -9,12 +9,14 @@ ghost use Rattle.wire_frames.specs.Runs.{GaveBadStream, GaveMore};
 ghost use Rattle.nrt_main.specs.Frames.{IsFrames, RanFrames, RanFramesInPart, IsFramesAnswer};
 ghost use Rattle.nrt_main.specs.Check.{IsCheck, RanCheck, FoundWrong, RanCheckInPart, GaveNoImage, AnswersCheck};
 ghost use Rattle.nrt_main.specs.Complete.{NoneFailed, OffersScript, OffersMessages, OffersImage, IsDoneOrMemory, IsCheckedOrMemory};
+ghost use Rattle.nrt_main.specs.Judge.{IsJudge, RanJudge, FoundIllegal, RanJudgeInPart, RefusesJudge, AnswersJudge};
 ghost use Rattle.nrt_main.specs.Load.{IsLoad, IsLoadOf, LeavesSummary, LeavesSummaryInPart, IsLoadAnswer};
 ghost use Rattle.nrt_main.specs.Rows.{IsKnownRow};
 ghost use Rattle.nrt_main.specs.TopCalls.{IsRefusal, IsReport, LeavesText, LeavesFront};
 
 use crate::built::first_not_built;
 use crate::checking::check_source;
+use crate::judging::judge_source;
 use crate::loading::{load, load_asked};
 use crate::reading::{ReadEnd, read_all};
 use crate::status::Status;
@@ -232,7 +234,11 @@ fn frames_source<S: Source, K: Sink>(alloc: Global, source: &mut S, sink: &mut K
 /// it is done, the totals that the sink gained are those of the scan over the documents that the script leaves, whatever the lanes'
 /// threads did in between, and `kept` has the cluster that ran it. But for want of memory a load is done, or the sink failed.
 ///
-/// On every answer but `Done`, `WriteFault` and `BadIndex` the sink is as before.
+/// `judge`: it reads a script, a line `report` and a report from the source, judges the report, and writes the line of the judgement to the
+/// sink. Where it is done, the source was read to its end, and the report is the text of a legal history that serves the script. `BadReport`
+/// says that it goes wrong, and the sink gained the line that says where and why.
+///
+/// On every answer but `Done`, `WriteFault`, `BadIndex` and `BadReport` the sink is as before.
 #[tactic(auto, using(crate::proofs::Loads::one_word, crate::proofs::Loads::no_word, crate::proofs::Loads::takes_none, crate::proofs::Complete::script_done, crate::proofs::Complete::load_done))]
 pub fn run_nrt<R: Threads + Wait + Sync, S: Source, K: Sink, G: Gate + Sync>(
     rt: &R,
@@ -304,6 +310,20 @@ pub fn run_nrt<R: Threads + Wait + Sync, S: Source, K: Sink, G: Gate + Sync>(
     ensures load_answers { IsLoad words.now → result ≢ Status.Memory → IsLoadAnswer result }
     ensures load_unread { IsLoad words.now → source.new ≡ source.old }
 
+    // `judge`.
+    ensures judge_done { IsJudge words.now → result ≡ Status.Done → RanJudge (S.left source.old)
+        (S.left source.new) (K.held sink.old) (K.held sink.new) }
+    ensures judge_wrong { IsJudge words.now → result ≡ Status.BadReport → FoundIllegal
+        (S.left source.old) (S.left source.new) (K.held sink.old) (K.held sink.new) }
+    ensures judge_part { IsJudge words.now → result ≡ Status.WriteFault → RanJudgeInPart
+        (S.left source.old) (S.left source.new) (K.held sink.old) (K.held sink.new) }
+    ensures judge_bad { (n : LineNo) (cause : LineFault) → IsJudge words.now
+        → result ≡ Status.BadScript n cause
+        → RefusesJudge (S.left source.old) (S.left source.new) n.0 cause }
+    ensures judge_answers { IsJudge words.now → result ≢ Status.ReadFault
+        → result ≢ Status.TooLarge → result ≢ Status.Memory
+        → AnswersJudge (S.left source.old) (S.left source.new) result }
+
     // Where no read and no write failed, and the source has left what is asked for, all is done, or memory ran out.
     ensures complete { IsRun words.now → OffersScript (S.left source.old)
         → NoneFailed (S.fault_count source.old) (S.fault_count source.new)
@@ -317,14 +337,14 @@ pub fn run_nrt<R: Threads + Wait + Sync, S: Source, K: Sink, G: Gate + Sync>(
     ensures load_complete { IsLoad words.now
         → K.fault_count sink.new ≡ K.fault_count sink.old → IsDoneOrMemory result }
 
-    // All four.
+    // All five.
     ensures read { result ≡ Status.ReadFault → S.fault_count source.old < S.fault_count source.new }
     ensures write { result ≡ Status.WriteFault → K.fault_count sink.old < K.fault_count sink.new }
     ensures large { result ≡ Status.TooLarge → TakesMore (S.left source.old) (S.left source.new) }
     ensures small { result ≢ Status.TooLarge → result ≢ Status.Memory → result ≢ Status.Usage
         → TakesWithin (S.left source.old) (S.left source.new) }
     ensures kept { result ≢ Status.Done → result ≢ Status.WriteFault → result ≢ Status.BadIndex
-        → sink.new ≡ sink.old }
+        → result ≢ Status.BadReport → sink.new ≡ sink.old }
 {
     if is_word(words, b"run") {
         run_source(rt, alloc, gate, source, sink, kept)
@@ -332,6 +352,8 @@ pub fn run_nrt<R: Threads + Wait + Sync, S: Source, K: Sink, G: Gate + Sync>(
         frames_source(alloc, source, sink)
     } else if is_word(words, b"check") {
         check_source(alloc, source, sink)
+    } else if is_word(words, b"judge") {
+        judge_source(alloc, source, sink)
     } else {
         match load_asked(words) {
             Some(n) => load(rt, alloc, gate, words, n, sink, kept),

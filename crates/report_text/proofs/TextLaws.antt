@@ -81,7 +81,7 @@ kind_is_word Damage = refl
 kind_is_word Disk = refl
 kind_is_word Stop = refl
 
-event_words_are : (e : Event) → EventFits e → list_all is_token (event_words e) ≡ true
+pub event_words_are : (e : Event) → EventFits e → list_all is_token (event_words e) ≡ true
 event_words_are (Accepted seq op) h = one_is seq h
 event_words_are Publishing h = refl
 event_words_are (Published g v) h = two_are g.0 v.0 h.0 h.1
@@ -275,7 +275,7 @@ same_event e f p q h = absurd (apart (event_words e) (event_words f) refl h)
 abbrev line_words : Entry → List (List ℕ)
 line_words e = decimal e.at.line.0 ∷ event_words e.event
 
-line_words_are : (e : Entry) → EntryFits e → list_all is_token (line_words e) ≡ true
+pub line_words_are : (e : Entry) → EntryFits e → list_all is_token (line_words e) ≡ true
 line_words_are e h = more_words e.at.line.0 (event_words e.event) h.line (event_words_are e.event h.event)
 
 -- a line with a space before it and more text behind it, as its words

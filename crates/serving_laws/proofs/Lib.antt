@@ -2,4 +2,4 @@ mod FinishLemmas
 mod FitLemmas
 mod PlainServingLaws
 mod ReplayLemmas
-mod Unprinted
+pub mod Unprinted

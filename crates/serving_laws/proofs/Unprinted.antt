@@ -38,23 +38,23 @@ use Rattle.serving_laws.specs.Determined.{TextsDetermineHistories}
 
 -- ---- what a command says of the entries of its line
 
-abbrev OpOf : LineCommand → Op → Type 0
+abbrev pub OpOf : LineCommand → Op → Type 0
 OpOf (Put doc) op = op ≡ PutOp doc
 OpOf (Delete key) op = op ≡ DeleteOp key
 OpOf (Drop word) op = op ≡ DropOp word
 OpOf command op = ⊥
 
-abbrev QueryOf : LineCommand → Query → Type 0
+abbrev pub QueryOf : LineCommand → Query → Type 0
 QueryOf (Search n query) q = q ≡ query
 QueryOf (Ask t query) q = q ≡ query
 QueryOf command q = ⊥
 
-abbrev MostOf : LineCommand → ℕ → Type 0
+abbrev pub MostOf : LineCommand → ℕ → Type 0
 MostOf (Drain most) bound = bound ≡ most
 MostOf command bound = ⊥
 
 -- what is not printed of the event is what the command says
-abbrev OfCommand : Option LineCommand → Event → Type 0
+abbrev pub OfCommand : Option LineCommand → Event → Type 0
 OfCommand None e = ⊥
 OfCommand (Some command) (Accepted seq op) = OpOf command op
 OfCommand (Some command) (Answered n t v query answer) = QueryOf command query
@@ -62,12 +62,12 @@ OfCommand (Some command) (Drained done most) = MostOf command most
 OfCommand (Some command) e = ⊤
 
 -- the event accepts this operation
-abbrev AcceptsOp : Op → Event → Type 0
+abbrev pub AcceptsOp : Op → Event → Type 0
 AcceptsOp op (Accepted seq again) = again ≡ op
 AcceptsOp op e = ⊥
 
 -- what is not printed of the event is what the replay or the command says
-abbrev Unprinted : List Op → Option LineCommand → Event → Type 0
+abbrev pub Unprinted : List Op → Option LineCommand → Event → Type 0
 Unprinted [] command e = OfCommand command e
 Unprinted (op ∷ ops) command e = AcceptsOp op e
 
@@ -191,7 +191,7 @@ fits_replay op past at (Some (Promote n force)) (Accepted seq again) h = h.0
 fits_replay op past at None e h = absurd h
 fits_replay op past at (Some command) e h = absurd h
 
-fits_unprinted : (ops : List Op) (lines : List Line) (past : Past) (at : At) (command : Option LineCommand) (e : Event) → Fits ops lines past at command e → Unprinted ops command e
+pub fits_unprinted : (ops : List Op) (lines : List Line) (past : Past) (at : At) (command : Option LineCommand) (e : Event) → Fits ops lines past at command e → Unprinted ops command e
 fits_unprinted [] lines past at command e h = fits_turn lines past at command e h
 fits_unprinted (op ∷ ops) lines past at command e h = fits_replay op past at command e h
 
@@ -249,7 +249,7 @@ lane_number k = record { 0 = k }
 abbrev place : LaneNo → LineNo → At
 place lane line = record { lane = lane; line = line }
 
-one_place : (lines : List Line) (a b : At) → are_distinct lines ≡ true → has_line lines a ≡ true → has_line lines b ≡ true → a.line ≡ b.line → a ≡ b
+pub one_place : (lines : List Line) (a b : At) → are_distinct lines ≡ true → has_line lines a ≡ true → has_line lines b ≡ true → a.line ≡ b.line → a ≡ b
 one_place lines a b d h k e =
     ap (λ (l : ℕ). place (lane_number l) a.line) (one_lane lines a b d h k (ap (λ (l : LineNo). l.0) e)) ∙ ap (place b.lane) e
 

@@ -16,7 +16,8 @@ const ABOUT: &str = "Near-real-time segment replication as in Lucene, every step
 const USAGE: &str = "nrt run < SCRIPT\n\
     \x20      nrt load N\n\
     \x20      nrt check < IMAGE\n\
-    \x20      nrt frames < STREAM";
+    \x20      nrt frames < STREAM\n\
+    \x20      nrt judge < SCRIPT_AND_REPORT";
 
 const NOTES: &str = "EXAMPLE of a script:\n\
     \x20   nodes 2\n\
@@ -37,7 +38,8 @@ const NOTES: &str = "EXAMPLE of a script:\n\
     \x20   7   the input has more than 16,777,216 bytes\n\
     \x20   8   check: something is wrong with the directory\n\
     \x20   9   check: the input is no image of a directory\n\
-    \x20   10  frames: the stream is bad";
+    \x20   10  frames: the stream is bad\n\
+    \x20   11  judge: the report is not that of a legal history";
 
 const NUMBERS: &str = "a number is decimal, without a sign and without leading zeros";
 
@@ -90,6 +92,12 @@ fn program<'a>(alloc: Global) -> Result<Command<'a>, AllocError> {
             "frames",
             "nrt frames < STREAM",
             "Tell the messages of a stream of replication frames on standard input",
+        ))?
+        .subcommand(row(
+            alloc,
+            "judge",
+            "nrt judge < SCRIPT_AND_REPORT",
+            "Judge a report: whether it is that of a legal history of its script",
         ))
 }
 

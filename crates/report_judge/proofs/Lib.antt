@@ -1,0 +1,6 @@
+mod PlaceLaws
+mod ReadingLaws
+mod ReplayLaws
+mod ServingLaws
+mod SourceLaws
+mod WalkLaws

@@ -1,0 +1,13 @@
+use Rattle.std.proofs.Common.{length}
+use Rattle.std.specs.Prelude.{reverse}
+use Rattle.report_judge.specs.Walks.{IsShown, ServesTo}
+use Rattle.report_judge.proofs.judging.walk.Given as goal
+
+abbrev pub invariant-loop-line : goal.invariant-loop-line
+invariant-loop-line l = record {
+  shown : IsShown l.script (reverse l.entries.items) l.shown;
+  serves : ServesTo l.script l.report (reverse l.entries.items) l.left;
+}
+
+abbrev pub decreases-loop-line : goal.decreases-loop-line
+decreases-loop-line l = length l.left

@@ -1,0 +1,220 @@
+//! Whether an entry is one that its line asks for, in its turn.
+
+ghost use Rattle.std.specs.Prelude.{◌≡◌, List, [], ◌∷◌, map, reverse, Some, None, IsTrue, IfOk, ◌↔◌};
+ghost use Rattle.history_facts.specs.Generations.{ShowsGeneration};
+ghost use Rattle.script_serving.specs.Refusals.{put_publishes, refusal as refusal_lem};
+ghost use Rattle.script_serving.specs.Serves.{First, Suits, SuitsFault, FitsTurn, FitsReplay, is_newest_at as is_newest_at_lem};
+ghost use Rattle.history_rules.specs.Lines.{last_of_line as last_of_line_lem};
+ghost use Rattle.script_serving.specs.declared.script.Line.{Line};
+ghost use Rattle.documents.specs.declared.operation.Op.{Op};
+ghost use Rattle.report_reading.specs.Readings.{as_told};
+ghost use Rattle.report_judge.specs.Places.{place_of};
+ghost use Rattle.report_judge.specs.Serving.{is_fault as is_fault_lem, is_merge as is_merge_lem, is_acceptance as is_acceptance_lem};
+
+use crate::commands::{begins, follows};
+use crate::lines::earlier_answered;
+use crate::refusals::{may_be_refused, refusal};
+use history_facts::{Generation, is_answered, last_of_line, same_at};
+use history_rules::{Cause, Entry, Event};
+use nrt_base::{At, NoMemory};
+use script_serving::LineCommand;
+use std::alloc::Global;
+
+/// Whether the two are one cause for which a line is refused before it has started.
+fn is_same_cause(cause: &Cause, wanted: &Cause) -> bool
+    ensures { IsTrue result ↔ (cause.now ≡ wanted.now) }
+{
+    match wanted {
+        Cause::Down => matches!(cause, Cause::Down),
+        Cause::Primary => matches!(cause, Cause::Primary),
+        Cause::NoPrimary => matches!(cause, Cause::NoPrimary),
+        Cause::PrimaryUp => matches!(cause, Cause::PrimaryUp),
+        Cause::NoTicket => matches!(cause, Cause::NoTicket),
+        Cause::Lost => matches!(cause, Cause::Lost),
+        Cause::LinkFault => matches!(cause, Cause::LinkFault),
+        Cause::DiskFault => matches!(cause, Cause::DiskFault),
+        Cause::Nothing => matches!(cause, Cause::Nothing),
+        Cause::Up => matches!(cause, Cause::Up),
+        Cause::NameUsed => matches!(cause, Cause::NameUsed),
+        Cause::NamesSpent => matches!(cause, Cause::NamesSpent),
+        Cause::TooManySegments => matches!(cause, Cause::TooManySegments),
+        Cause::ForceHigh => matches!(cause, Cause::ForceHigh),
+        Cause::ForceLow(v) => match cause {
+            Cause::ForceLow(w) => v.0 == w.0,
+            _ => false,
+        },
+        Cause::Cancelled(v) => match cause {
+            Cause::Cancelled(w) => v.0 == w.0,
+            _ => false,
+        },
+        Cause::Damaged(name) => match cause {
+            Cause::Damaged(other) => other.as_slice() == name.as_slice(),
+            _ => false,
+        },
+    }
+}
+
+/// Whether the entry refuses a line for this cause.
+fn is_refused_for(event: &Event, wanted: &Cause) -> bool
+    ensures { IsTrue result ↔ (event.now ≡ Event.Refused wanted.now) }
+{
+    match event {
+        Event::Refused { cause } => is_same_cause(cause, wanted),
+        _ => false,
+    }
+}
+
+/// Whether an entry that may be a refusal begins a line for which no cause holds.
+#[tactic(auto, using(crate::proofs::ServingLaws::first_begins))]
+fn is_first_unrefused(
+    alloc: Global,
+    command: &LineCommand,
+    at: At,
+    generation: &Generation,
+    puts: usize,
+    entries: &[Entry],
+    event: &Event,
+) -> Result<bool, NoMemory>
+    requires told { as_told [] command.now event.now ≡ event.now }
+    requires shown { ShowsGeneration (reverse entries.now) generation.now }
+    requires puts { puts ≡ put_publishes (reverse entries.now) }
+    ensures { IfOk result (λ is. IsTrue is ↔
+        First command.now at (reverse entries.now) None event.now) }
+{
+    match event {
+        Event::Refused { cause } => {
+            may_be_refused(alloc, command, at, generation, puts, entries, cause)
+        }
+        _ => Ok(begins(command, puts, entries, event)),
+    }
+}
+
+/// Whether the first entry of a line that is no fault is the refusal that holds, or one that may hold, or the line's beginning.
+fn is_first(
+    alloc: Global,
+    command: &LineCommand,
+    at: At,
+    generation: &Generation,
+    puts: usize,
+    entries: &[Entry],
+    event: &Event,
+) -> Result<bool, NoMemory>
+    requires told { as_told [] command.now event.now ≡ event.now }
+    requires shown { ShowsGeneration (reverse entries.now) generation.now }
+    requires puts { puts ≡ put_publishes (reverse entries.now) }
+    ensures { IfOk result (λ is. IsTrue is ↔ First command.now at (reverse entries.now)
+        (refusal_lem command.now at.lane.0 (reverse entries.now)) event.now) }
+{
+    match refusal(command, at.lane, generation, entries) {
+        Some(cause) => Ok(is_refused_for(event, &cause)),
+        None => is_first_unrefused(alloc, command, at, generation, puts, entries, event),
+    }
+}
+
+/// Whether an entry is one that its line asks for, behind the line's newest one.
+fn suits(
+    alloc: Global,
+    command: &LineCommand,
+    at: At,
+    generation: &Generation,
+    puts: usize,
+    entries: &[Entry],
+    event: &Event,
+) -> Result<bool, NoMemory>
+    requires told { as_told [] command.now event.now ≡ event.now }
+    requires shown { ShowsGeneration (reverse entries.now) generation.now }
+    requires puts { puts ≡ put_publishes (reverse entries.now) }
+    ensures { IfOk result (λ is. IsTrue is ↔ Suits command.now at (reverse entries.now)
+        (last_of_line_lem at (reverse entries.now)) event.now) }
+{
+    match last_of_line(at, entries) {
+        None => is_first(alloc, command, at, generation, puts, entries, event),
+        Some(last) => Ok(!is_answered(at, entries) && follows(command, last, event)),
+    }
+}
+
+/// Whether the event is a fault that was met.
+pub fn is_fault(event: &Event) -> bool
+    ensures { result ≡ is_fault_lem event.now }
+{
+    match event {
+        Event::Fault { .. } => true,
+        _ => false,
+    }
+}
+
+fn is_acceptance(event: &Event) -> bool
+    ensures { result ≡ is_acceptance_lem event.now }
+{
+    match event {
+        Event::Accepted { .. } => true,
+        _ => false,
+    }
+}
+
+/// Whether the line starts a merge.
+pub fn is_merge(command: &LineCommand) -> bool
+    ensures { result ≡ is_merge_lem command.now }
+{
+    match command {
+        LineCommand::Merge(_) => true,
+        _ => false,
+    }
+}
+
+/// Whether a fault comes before its line's reply and in its turn, or is one of a merge.
+fn fits_fault(command: &LineCommand, places: &[At], at: At, entries: &[Entry]) -> bool
+    ensures { (lines : List Line) → places.now ≡ map place_of lines → IsTrue result ↔
+        SuitsFault command.now lines at (reverse entries.now) }
+{
+    if is_merge(command) {
+        return true;
+    }
+    !is_answered(at, entries) && earlier_answered(places, at, entries)
+}
+
+/// Whether an entry is one that its line asks for, in the line's turn in its lane.
+pub fn fits_turn(
+    alloc: Global,
+    command: &LineCommand,
+    places: &[At],
+    at: At,
+    generation: &Generation,
+    puts: usize,
+    entries: &[Entry],
+    event: &Event,
+) -> Result<bool, NoMemory>
+    requires told { as_told [] command.now event.now ≡ event.now }
+    requires shown { ShowsGeneration (reverse entries.now) generation.now }
+    requires puts { puts ≡ put_publishes (reverse entries.now) }
+    ensures { (lines : List Line) → places.now ≡ map place_of lines → IfOk result (λ fits. IsTrue fits ↔
+        FitsTurn lines (reverse entries.now) at (Some command.now) event.now) }
+{
+    if is_fault(event) {
+        return Ok(fits_fault(command, places, at, entries));
+    }
+    if !earlier_answered(places, at, entries) {
+        return Ok(false);
+    }
+    suits(alloc, command, at, generation, puts, entries, event)
+}
+
+fn is_newest_at(at: At, entries: &[Entry]) -> bool
+    ensures { result ≡ is_newest_at_lem at (reverse entries.now) }
+{
+    match entries.last() {
+        Some(entry) => same_at(entry.at, at),
+        None => false,
+    }
+}
+
+/// Whether an entry goes on with a replay, where an operation is due to be accepted again.
+pub fn fits_replay(command: &LineCommand, at: At, entries: &[Entry], event: &Event) -> bool
+    ensures { (op : Op) (ops : List Op) → as_told (op ∷ ops) command.now event.now ≡ event.now
+        → IsTrue result ↔ FitsReplay op (reverse entries.now) at (Some command.now) event.now }
+{
+    match command {
+        LineCommand::Promote(_, _) => is_acceptance(event) && is_newest_at(at, entries),
+        _ => false,
+    }
+}

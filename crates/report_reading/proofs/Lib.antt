@@ -1,0 +1,4 @@
+mod CutLemmas
+mod NameLaws
+pub mod ReadingLaws
+pub mod LineLaws
