@@ -28,7 +28,7 @@ use Rattle.trans_log.specs.Logs.{IsOpenLog, IsLogSafe, IsCalm, in_flight}
 use Rattle.cluster_state.specs.Run.{Run, IsNow, IsEnded}
 use Rattle.cluster_state.specs.Calls.{by_refusal}
 use Rattle.cluster_core.specs.Doing.{Does, writing_command}
-use Rattle.cluster_site.specs.Sites.{SiteRun, SiteStands, IsInStep, LogGoesOn, LogStands, DoesAtSite, operations_in, records_of, with_record, with_next}
+use Rattle.cluster_site.specs.Sites.{SiteRun, SiteStands, IsInStep, LogGoesOn, LogStands, DoesAtSite, operations_in, records_of, with_record, next_record, with_next}
 use Rattle.cluster_site.proofs.Lifting.{is_promotion, line_goes}
 use Rattle.cluster_site.proofs.Stands.{site_of, runs_was, ended_stands}
 
@@ -165,15 +165,14 @@ module _ {D : Type 0} (old : Run) (log later : Option (TransLog D)) (s : SiteRun
 
   pub kept_same : {X E : Type 0} (r : Result X E) → is_some (primary_of (printed old.log)) ≡ false → later ≡ log → OnOk r (records_of later ≡ with_next op (printed s.run.log) s.kept)
   kept_same (Ok x) none same =
-      let next : LogOp = record { generation = record { 0 = generation_of (printed old.log) }; seq = accepted_count (printed old.log) + 1; op = op } in
-      at_site (ap records_of same ∙ sym (ap (λ (b : Bool). if b then with_record next (records_of log) else records_of log) none))
+      at_site (ap records_of same ∙ sym (ap (λ (b : Bool). if b then with_record (next_record op (printed old.log)) (records_of log) else records_of log) none))
   kept_same (Err e) none same = tt
 
   pub kept_more : {X E : Type 0} (r : Result X E) (entry : LogOp) → entry.op ≡ op → is_some (primary_of (printed old.log)) ≡ true → entry.generation.0 ≡ generation_of (printed old.log)
       → (accepted_count (printed old.log) + 1 < 2 ^ 32 → entry.seq ≡ accepted_count (printed old.log) + 1) → records_of later ≡ with_record entry (records_of log)
       → accepted_count (printed s.run.log) + 1 < 2 ^ 32 → OnOk r (records_of later ≡ with_next op (printed s.run.log) s.kept)
   kept_more (Ok x) entry same some generation number more few =
-      let next : LogOp = record { generation = record { 0 = generation_of (printed old.log) }; seq = accepted_count (printed old.log) + 1; op = op } in
+      let next : LogOp = next_record op (printed old.log) in
       let seq : entry.seq ≡ accepted_count (printed old.log) + 1 = number (subst (λ (z : SiteRun). accepted_count (printed z.run.log) + 1 < 2 ^ 32) (sym view) few) in
       let made : entry ≡ next = λ i. record { generation = record { 0 = generation i }; seq = seq i; op = same i } in
       at_site (more ∙ (ap (λ (r : LogOp). with_record r (records_of log)) made ∙ sym (ap (λ (b : Bool). if b then with_record next (records_of log) else records_of log) some)))

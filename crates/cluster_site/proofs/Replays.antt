@@ -72,7 +72,7 @@ pub replays_next : (at : At) (base old new : Log) (records : List LogOp) (i : �
 replays_next at base old new records i entry within item r is =
     let next : suc i ≡ i + 1 = omega arith in
     let here : drop i records ≡ entry ∷ drop (i + 1) records =
-        subst (λ (k : ℕ). drop i records ≡ entry ∷ drop k records) next (drop-cons records i entry within ∙ ap (λ (x : LogOp). x ∷ drop (suc i) records) (sym item)) in
+    subst (λ (k : ℕ). drop i records ≡ entry ∷ drop k records) next (drop-cons records i entry within ∙ ap (λ (x : LogOp). x ∷ drop (suc i) records) (sym item)) in
     replays_one at base old new entry.op (operations_in (drop (i + 1) records)) (subst (λ (rs : List LogOp). ReplaysTo at base old (operations_in rs)) here r) is
 
 pub replays_all : (at : At) (base now : Log) (records : List LogOp) (i : ℕ) → length records ≤ i → ReplaysTo at base now (operations_in (drop i records)) → ReplaysTo at base now []

@@ -47,10 +47,13 @@ abbrev pub with_record : LogOp → Option (List LogOp) → Option (List LogOp)
 with_record r None = None
 with_record r (Some records) = Some (records ++ r ∷ [])
 
--- the records behind a line that writes: one more where a primary runs, with the generation and the number of the line's entry
+-- the record of an operation that is accepted next: with the generation and the number of its entry
+abbrev pub next_record : Op → Past → LogOp
+next_record op past = record { generation = record { 0 = generation_of past }; seq = accepted_count past + 1; op = op }
+
+-- the records behind a line that writes: one more where a primary runs
 abbrev pub with_next : Op → Past → Option (List LogOp) → Option (List LogOp)
-with_next op past kept =
-    if is_some (primary_of past) then with_record (record { generation = record { 0 = generation_of past }; seq = accepted_count past + 1; op = op }) kept else kept
+with_next op past kept = if is_some (primary_of past) then with_record (next_record op past) kept else kept
 
 module _ {D : Type 0} (cells : D → Cells) (plans : D → Option Plans) where
   -- the log goes on: the files of its directory are its records, a crash leaves them, and no fault is planned there
@@ -65,8 +68,8 @@ module _ {D : Type 0} (cells : D → Cells) (plans : D → Option Plans) where
   LogStands None = ⊤
   LogStands (Some l) = LogGoesOn l
 
-  -- what is true of a cluster and its log: the faults of merges' tasks are in order; and while the cluster has not ended, the log is in step with what happened, and
-  -- its directory with the log
+  -- what is true of a cluster and its log: the faults of merges' tasks are in order; and while the cluster has not ended, the log is in
+  -- step with what happened, and its directory with the log
   pub record SiteStands (r : Run) (log : Option (TransLog D)) : Type 0 where
     pub faults : FaultsFit (is_some (records_of log)) r.log
     pub in_step : r.ended ≡ false → IsInStep (records_of log) (printed r.log)

@@ -5,4 +5,4 @@ pub returns-in-None : goal.returns-in-None
 returns-in-None c = none_newest c.args.entries.now c.in-None.ensures.cases
 
 pub returns-in-Some : goal.returns-in-Some
-returns-in-Some c = newest_is c.args.entries.now _ c.in-Some.field-0.0.now c.version_of_promotion.result c.in-Some.ensures.cases.0 c.version_of_promotion.ensures
+returns-in-Some c = newest_is c.args.entries.now _ c.in-Some.entry.now c.version_of_promotion.result c.in-Some.ensures.cases.0 c.version_of_promotion.ensures
