@@ -71,8 +71,8 @@ fn new_site(alloc: Global, script: &Script) -> Result<Site<MemDir>, NoMemory>
     Site::start(alloc, dirs)
 }
 
-/// Runs a script on a new cluster, its lanes in threads of their own, and answers the cluster as the script leaves it. `Err` is want of
-/// memory alone.
+/// Runs a script on a new cluster, its lanes in threads of their own, and answers the cluster as the script leaves it. Where the script has
+/// `log`, the site has one, which a promotion replays. `Err` is want of memory alone.
 ///
 /// Whatever the lanes' threads do in between, the history is legal and serves the script, and each printed entry tells what is so of
 /// inner work.
