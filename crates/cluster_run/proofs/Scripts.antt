@@ -25,7 +25,7 @@ all_both p q (line ∷ lines) hp hq =
 
 -- each line of a plain script is run
 pub lines_run : (script : Script) → IsInForm script → IsPlainScript script → list_all (λ line. is_command script.nodes line.command && is_run line.command) (lines_of script) ≡ true
-lines_run script form plain = all_both (λ line. is_command script.nodes line.command) (λ line. is_run line.command) (lines_of script) form.commands plain.commands
+lines_run script form plain = all_both (λ line. is_command script.nodes line.command) (λ line. is_run line.command) (lines_of script) form.commands plain
 
 -- the history that was left serves the script
 pub left_serves : (script : Script) (s : SiteRun) (r : Run) → record { nodes = s.run.nodes; log = is_logged s } ≡ setup_of script → ((h : History) → IsHistoryOf script.nodes s.run.log h → Serves script h) → r ≡ s.run
