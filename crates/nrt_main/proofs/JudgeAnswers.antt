@@ -1,5 +1,5 @@
 -- The answer to a script and a report is the answer to their bytes.
-use Rattle.std.proofs.Common.{◌≡◌, ◌≢◌, List, ℕ, refl, inl, inr}
+use Rattle.std.proofs.Common.{◌≡◌, ◌≢◌, List, ℕ, refl}
 use Rattle.std.specs.Prelude.{◌⊎◌}
 use Rattle.script_text.proofs.RefusalLaws.{never_both, one_refusal}
 use Rattle.report_judge.specs.declared.judgement.Judgement.{Judgement}

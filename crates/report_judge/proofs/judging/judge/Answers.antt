@@ -1,4 +1,4 @@
-use Rattle.std.proofs.Common.{List, get_or, subst, ap, ◌∙◌, sym, ◌≡◌}
+use Rattle.std.proofs.Common.{List, get_or, subst, ap, ◌∙◌, ◌≡◌}
 use Rattle.std.proofs.lemmas.Option.{get_or_from_slice_get}
 use Rattle.history_rules.specs.declared.entry.Entry.{Entry}
 use Rattle.history_rules.specs.declared.point.Verdict.{Verdict}
