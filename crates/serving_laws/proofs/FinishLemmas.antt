@@ -38,7 +38,7 @@ use Rattle.script_serving.specs.Lines.{lines_of_lane, command_at}
 use Rattle.script_serving.specs.Refusals.{when, without_primary, without_node, forced_version, names_are_spent, refusal, may_be_refused}
 use Rattle.script_serving.specs.Replays.{due}
 use Rattle.script_serving.specs.Serves.{Begins, First, Follows, Suits, FitsTurn, FitsReplay, Fits, ServesLanes, Serves}
-use Rattle.serving_laws.specs.Finishing.{IsFinish, IsUnharmed, IsCancelled, UnharmedLinesFinish, is_fault_cause, FaultsWereMet}
+use Rattle.serving_laws.specs.Finishing.{IsFinish, IsUnharmed, IsSuperseded, UnharmedLinesFinish, is_fault_cause, FaultsWereMet}
 use Rattle.serving_laws.proofs.ReplayLemmas.{told, serves_back, turned}
 
 -- ---- the start of a line
@@ -173,7 +173,7 @@ module _ (size : ℕ) (at : At) (past : Past) (begun : Event) where
 
   module _ (unharmed : IsUnharmed at past begun) where
     -- a line that was not harmed is broken off by a later job alone
-    broken_off : (cause : Cause) → MayRefuse size past at (before_start at past) begun cause → IsCancelled size at past begun (Refused cause)
+    broken_off : (cause : Cause) → MayRefuse size past at (before_start at past) begun cause → IsSuperseded size at past begun (Refused cause)
     broken_off (Cancelled v) may = may.met refl
     broken_off Lost may = absurd (true≢false (may.lost ∙ unharmed.alive))
     broken_off LinkFault may = absurd (true≢false (sym (broken_by_fault LinkFault refl may) ∙ unharmed.spared))
@@ -181,7 +181,7 @@ module _ (size : ℕ) (at : At) (past : Past) (begun : Event) where
     broken_off DiskFault may = absurd (true≢false (sym (broken_by_fault DiskFault refl may) ∙ unharmed.spared))
     broken_off cause may = absurd (may.met refl)
 
-    ends_well : (x : Event) → is_late x ≡ true → is_reply x ≡ true → KeepsRule size past at x → start_entry at past ≡ Some begun → IsFinish begun x ⊎ IsCancelled size at past begun x
+    ends_well : (x : Event) → is_late x ≡ true → is_reply x ≡ true → KeepsRule size past at x → start_entry at past ≡ Some begun → IsFinish begun x ⊎ IsSuperseded size at past begun x
     ends_well (Published g v) late reply rule started = inl (same_event begun Publishing (sym started ∙ rule.started))
     ends_well (Copied n v) late reply rule started = inl (same_event begun (Copying n v) (sym started ∙ rule.started))
     ends_well (Settled v) late reply rule started = inl (same_event begun (Settling v) (sym started ∙ rule.started))

@@ -29,10 +29,10 @@ pub record IsUnharmed (at : At) (past : Past) (begun : Event) : Type 0 where
   pub spared : has_met_fault at past ≡ false
   pub alive : is_lost past (before_start at past) begun ≡ false
 
--- the line is refused since another line has started a later job at a node of it
-abbrev pub IsCancelled : ℕ → At → Past → Event → Event → Type 0
-IsCancelled size at past begun (Refused (Cancelled v)) = MayCancel size past at (before_start at past) begun v
-IsCancelled size at past begun e = ⊥
+-- the line is refused as cancelled: another line has started a later job at a node of it
+abbrev pub IsSuperseded : ℕ → At → Past → Event → Event → Type 0
+IsSuperseded size at past begun (Refused (Cancelled v)) = MayCancel size past at (before_start at past) begun v
+IsSuperseded size at past begun e = ⊥
 
 -- a line that has started, and was not harmed, has the reply that its start asks for, or was cancelled by a later job
 abbrev pub UnharmedLinesFinish : History → Type 0
@@ -40,7 +40,7 @@ UnharmedLinesFinish h =
     (before after : List Entry) (r : Entry) (begun : Event)
     → h.entries ≡ before ++ r ∷ after → is_reply r.event ≡ true → start_entry r.at (reverse before) ≡ Some begun
     → IsUnharmed r.at (reverse before) begun
-    → IsFinish begun r.event ⊎ IsCancelled h.nodes r.at (reverse before) begun r.event
+    → IsFinish begun r.event ⊎ IsSuperseded h.nodes r.at (reverse before) begun r.event
 
 -- the cause is a fault of the link, of a file or of a disk
 abbrev pub is_fault_cause : Cause → Bool
