@@ -7,9 +7,9 @@ use Rattle.history_rules.specs.declared.entry.Entry.{Entry}
 use Rattle.history_rules.specs.Nodes.{Past, is_at, primary_by, primary_of, version_of}
 use Rattle.point_counts.specs.declared.counting.Sought.{Sought}
 use Rattle.point_counts.specs.declared.counting.Sought.TheVariants.{Point, Start, Written}
-use Rattle.point_counts.specs.declared.searched.Look.{Look}
-use Rattle.point_counts.specs.declared.searched.Look.TheVariants.{Found, Before}
-use Rattle.point_counts.specs.Walks.{operations_sought, IsApart, LooksBack}
+use Rattle.point_counts.specs.declared.searched.Said.{Said}
+use Rattle.point_counts.specs.declared.searched.Said.TheVariants.{Found, Before}
+use Rattle.point_counts.specs.Walks.{operations_sought, ReignsNot, SaysBack}
 
 -- the newest entry stands last
 pub last_newest : (left front : List Entry) (e : Entry) → left ≡ front ++ e ∷ [] → reverse left ≡ e ∷ reverse front
@@ -46,14 +46,14 @@ module _ (left front : List Entry) (e : Entry) (last : left ≡ front ++ e ∷ [
   reigns_before r is says = sym (reigns_back r says ∙ ap (λ (x : Option Bool). unwrap_or x (is_at (primary_of (reverse front)) n)) is)
 
   -- the version that a node searches
-  pub apart_here : (apart : Bool) → IsApart apart n (reverse left) → IsApart apart n (e ∷ reverse front)
-  apart_here apart was = subst (IsApart apart n) (last_newest left front e last) was
+  pub apart_here : (apart : Bool) → ReignsNot apart n (reverse left) → ReignsNot apart n (e ∷ reverse front)
+  apart_here apart was = subst (ReignsNot apart n) (last_newest left front e last) was
 
-  pub found_here : (look : Look) (v : ℕ) → look ≡ Found v → LooksBack n e (reverse front) look → v ≡ version_of n (reverse left)
-  found_here look v is says = sym (ap (version_of n) (last_newest left front e last) ∙ subst (LooksBack n e (reverse front)) is says)
+  pub found_here : (look : Said) (v : ℕ) → look ≡ Found v → SaysBack n e (reverse front) look → v ≡ version_of n (reverse left)
+  found_here look v is says = sym (ap (version_of n) (last_newest left front e last) ∙ subst (SaysBack n e (reverse front)) is says)
 
-  pub same_before : (look : Look) (apart : Bool) → look ≡ Before apart → LooksBack n e (reverse front) look → version_of n (reverse front) ≡ version_of n (reverse left)
-  same_before look apart is says = sym (ap (version_of n) (last_newest left front e last) ∙ (subst (LooksBack n e (reverse front)) is says).0)
+  pub same_before : (look : Said) (apart : Bool) → look ≡ Before apart → SaysBack n e (reverse front) look → version_of n (reverse front) ≡ version_of n (reverse left)
+  same_before look apart is says = sym (ap (version_of n) (last_newest left front e last) ∙ (subst (SaysBack n e (reverse front)) is says).0)
 
-  pub apart_before : (look : Look) (apart : Bool) → look ≡ Before apart → LooksBack n e (reverse front) look → IsApart apart n (reverse front)
-  apart_before look apart is says = (subst (LooksBack n e (reverse front)) is says).1
+  pub apart_before : (look : Said) (apart : Bool) → look ≡ Before apart → SaysBack n e (reverse front) look → ReignsNot apart n (reverse front)
+  apart_before look apart is says = (subst (SaysBack n e (reverse front)) is says).1

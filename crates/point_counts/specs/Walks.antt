@@ -6,8 +6,8 @@ use Rattle.history_rules.specs.Nodes.{Past, is_at, primary_of, version_of}
 use Rattle.history_rules.specs.Points.{operations_written, operations_at_start, operations_at}
 use Rattle.point_counts.specs.declared.counting.Sought.{Sought}
 use Rattle.point_counts.specs.declared.counting.Sought.TheVariants.{Point, Start, Written}
-use Rattle.point_counts.specs.declared.searched.Look.{Look}
-use Rattle.point_counts.specs.declared.searched.Look.TheVariants.{Found, Before}
+use Rattle.point_counts.specs.declared.searched.Said.{Said}
+use Rattle.point_counts.specs.declared.searched.Said.TheVariants.{Found, Before}
 
 -- the operations that are sought in the entries before a place
 abbrev pub operations_sought : Sought → Past → List Op
@@ -16,10 +16,10 @@ operations_sought (Start at) past = operations_at_start at past
 operations_sought Written past = operations_written past
 
 -- where it is said to be apart, the node is not the primary
-abbrev pub IsApart : Bool → ℕ → Past → Type 0
-IsApart apart n past = apart ≡ true → is_at (primary_of past) n ≡ false
+abbrev pub ReignsNot : Bool → ℕ → Past → Type 0
+ReignsNot apart n past = apart ≡ true → is_at (primary_of past) n ≡ false
 
 -- what an entry says of the version that a node searches: this version, or that before the entry
-abbrev pub LooksBack : ℕ → Entry → Past → Look → Type 0
-LooksBack n e past (Found v) = version_of n (e ∷ past) ≡ v
-LooksBack n e past (Before apart) = (version_of n (e ∷ past) ≡ version_of n past) × IsApart apart n past
+abbrev pub SaysBack : ℕ → Entry → Past → Said → Type 0
+SaysBack n e past (Found v) = version_of n (e ∷ past) ≡ v
+SaysBack n e past (Before apart) = (version_of n (e ∷ past) ≡ version_of n past) × ReignsNot apart n past

@@ -118,7 +118,7 @@ fn written_before(entry: &Entry, front: &[Entry]) -> (Sought, usize)
 
 /// How many operations the point of a version has.
 pub fn operation_count(entries: &[Entry], v: Version) -> usize
-    ensures { result ≡ length (operations_at (reverse entries.now) v.0) }
+    ensures count { result ≡ length (operations_at (reverse entries.now) v.0) }
 {
     let mut left = entries;
     let mut sought = Sought::Point(v.0);

@@ -3,7 +3,7 @@
 ghost use Rattle.std.specs.Prelude.{◌≡◌, ◌∷◌, ◌==◌, reverse, true, false, Option, unwrap_or};
 ghost use Rattle.nrt_base.specs.declared.numbers.NodeNo.{NodeNo};
 ghost use Rattle.history_rules.specs.Nodes.{is_at, primary_by, primary_of, version_of};
-ghost use Rattle.point_counts.specs.Walks.{IsApart, LooksBack};
+ghost use Rattle.point_counts.specs.Walks.{ReignsNot, SaysBack};
 
 use history_facts::is_at;
 use history_rules::{Entry, Event};
@@ -58,7 +58,7 @@ fn reigns(n: NodeNo, entries: &[Entry]) -> bool
 
 /// What an entry says of the version that a node searches.
 #[derive(Drop)]
-pub enum Look {
+pub enum Said {
     /// This is the version.
     Found(u64),
     /// Nothing: it is that before the entry. Where this is true, the node is not the primary there.
@@ -66,33 +66,35 @@ pub enum Look {
 }
 
 // Looks at an entry. Where `apart` is true, the node is not the primary after it.
-fn look_at(n: NodeNo, entry: &Entry, front: &[Entry], apart: bool) -> Look
-    requires { IsApart apart n.0 (entry.now ∷ reverse front.now) }
-    ensures { LooksBack n.0 entry.now (reverse front.now) result }
+fn look_at(n: NodeNo, entry: &Entry, front: &[Entry], apart: bool) -> Said
+    requires { ReignsNot apart n.0 (entry.now ∷ reverse front.now) }
+    ensures { SaysBack n.0 entry.now (reverse front.now) result }
 {
     match &entry.event {
         Event::Published { v, .. } => {
-            if apart || !reigns(n, front) {
-                Look::Before(true)
+            if apart {
+                Said::Before(true)
+            } else if reigns(n, front) {
+                Said::Found(v.0)
             } else {
-                Look::Found(v.0)
+                Said::Before(true)
             }
         }
         Event::Switched { n: m, v } | Event::Reopened { n: m, v } => {
             if m.0 == n.0 {
-                Look::Found(v.0)
+                Said::Found(v.0)
             } else {
-                Look::Before(apart)
+                Said::Before(apart)
             }
         }
         Event::Promoted { n: m, v, .. } => {
             if m.0 == n.0 {
-                Look::Found(v.0)
+                Said::Found(v.0)
             } else {
-                Look::Before(false)
+                Said::Before(false)
             }
         }
-        Event::Crashed { .. } => Look::Before(false),
+        Event::Crashed { .. } => Said::Before(false),
         Event::Accepted { .. }
         | Event::Publishing
         | Event::Copying { .. }
@@ -110,7 +112,7 @@ fn look_at(n: NodeNo, entry: &Entry, front: &[Entry], apart: bool) -> Look
         | Event::Files { .. }
         | Event::Planned { .. }
         | Event::Fault { .. }
-        | Event::Refused { .. } => Look::Before(apart),
+        | Event::Refused { .. } => Said::Before(apart),
     }
 }
 
@@ -122,8 +124,8 @@ pub fn version_of(n: NodeNo, entries: &[Entry]) -> u64
     let mut apart = false;
     while let Some((entry, front)) = left.split_last() {
         match look_at(n, entry, front, apart) {
-            Look::Found(version) => return version,
-            Look::Before(still) => {
+            Said::Found(version) => return version,
+            Said::Before(still) => {
                 apart = still;
                 left = front;
             }

@@ -14,5 +14,5 @@ loop-entry-preserved c =
       few = omega (arith, shorter, c.before_entry.ensures.few, c.loop-entry.invariant.few);
     }
 
-pub returns : goal.returns
-returns c = omega (arith, first_sought c.loop-entry.left.now c.loop-entry.sought c.in-None.ensures.cases, c.loop-entry.invariant.total)
+pub returns-clause-count : goal.returns-clause-count
+returns-clause-count c = omega (arith, first_sought c.loop-entry.left.now c.loop-entry.sought c.in-None.ensures.cases, c.loop-entry.invariant.total)
