@@ -16,15 +16,15 @@ pub last_newest : (left front : List Entry) (e : Entry) → left ≡ front ++ e 
 last_newest left front e is = ap reverse is ∙ reverse-append front (e ∷ [])
 
 -- before all entries
-none_left : {P : Past → Type 0} (left : List Entry) → length left ≡ 0 → P [] → P (reverse left)
-none_left [] none p = p
-none_left (e ∷ left) none p = absurd (let some : suc (length left) ≡ 0 = none in omega (arith, some))
+none_left : (P : Past → Type 0) (left : List Entry) → length left ≡ 0 → P [] → P (reverse left)
+none_left P [] none p = p
+none_left P (e ∷ left) none p = absurd (let some : suc (length left) ≡ 0 = none in omega (arith, some))
 
 pub first_reigns : (left : List Entry) (n : ℕ) → length left ≡ 0 → is_at (Some (record { 0 = 1 })) n ≡ is_at (primary_of (reverse left)) n
-first_reigns left n none = none_left {P = λ past. is_at (Some (record { 0 = 1 })) n ≡ is_at (primary_of past) n} left none refl
+first_reigns left n none = none_left (λ past. is_at (Some (record { 0 = 1 })) n ≡ is_at (primary_of past) n) left none refl
 
 pub first_version : (left : List Entry) (n : ℕ) → length left ≡ 0 → ◌≡◌ {A = ℕ} 1 (version_of n (reverse left))
-first_version left n none = none_left {P = λ past. ◌≡◌ {A = ℕ} 1 (version_of n past)} left none refl
+first_version left n none = none_left (λ past. ◌≡◌ {A = ℕ} 1 (version_of n past)) left none refl
 
 none_sought : (s : Sought) → length (operations_sought s []) ≡ 0
 none_sought (Point v) = refl
@@ -32,7 +32,7 @@ none_sought (Start at) = refl
 none_sought Written = refl
 
 pub first_sought : (left : List Entry) (s : Sought) → length left ≡ 0 → length (operations_sought s (reverse left)) ≡ 0
-first_sought left s none = none_left {P = λ past. length (operations_sought s past) ≡ 0} left none (none_sought s)
+first_sought left s none = none_left (λ past. length (operations_sought s past) ≡ 0) left none (none_sought s)
 
 module _ (left front : List Entry) (e : Entry) (last : left ≡ front ++ e ∷ []) (n : ℕ) where
   -- who is the primary

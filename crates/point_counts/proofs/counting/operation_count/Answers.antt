@@ -10,9 +10,9 @@ loop-entry-preserved c =
     let here = ap (λ (past : Past). length (operations_sought c.loop-entry.sought past)) (last_newest c.loop-entry.left.now c.in-Some.front.now c.in-Some.entry.now c.in-Some.ensures.cases.0) in
     let shorter = ap length c.in-Some.ensures.cases.0 ∙ length-append c.in-Some.front.now (c.in-Some.entry.now ∷ []) in
     record {
-      total = omega (arith, here, c.before_entry.ensures.count, c.loop-entry.invariant.total);
-      few = omega (arith, shorter, c.before_entry.ensures.few, c.loop-entry.invariant.few);
+      total = omega (arith, here, c.before_entry-next.ensures.count, c.loop-entry.invariant.total);
+      few = omega (arith, shorter, c.before_entry-next.ensures.few, c.loop-entry.invariant.few);
     }
 
-pub returns-clause-count : goal.returns-clause-count
-returns-clause-count c = omega (arith, first_sought c.loop-entry.left.now c.loop-entry.sought c.in-None.ensures.cases, c.loop-entry.invariant.total)
+pub returns : goal.returns
+returns c = record { count = omega (arith, first_sought c.loop-entry.left.now c.loop-entry.sought c.in_default.ensures.cases, c.loop-entry.invariant.total) }

@@ -16,4 +16,4 @@ returns-in-Found c =
     found_here c.loop-entry.left.now c.in-Some.front.now c.in-Some.entry.now c.in-Some.ensures.cases.0 c.args.n.0 c.look_at.result c.in-Found.version c.in-Found.is c.look_at.ensures ∙ c.loop-entry.invariant.version
 
 pub returns : goal.returns
-returns c = first_version c.loop-entry.left.now c.args.n.0 c.in-None.ensures.cases ∙ c.loop-entry.invariant.version
+returns c = first_version c.loop-entry.left.now c.args.n.0 c.in_default.ensures.cases ∙ c.loop-entry.invariant.version
