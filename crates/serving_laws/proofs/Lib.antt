@@ -1,4 +1,4 @@
 mod FitLemmas
 mod PlainServingLaws
-mod ReplayLemmas
+pub mod ReplayLemmas
 pub mod Unprinted

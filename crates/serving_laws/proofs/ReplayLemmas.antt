@@ -40,7 +40,7 @@ abbrev GoesOn : Script → Past → List Entry → Type 0
 GoesOn script past [] = replay_due past ≡ []
 GoesOn script past (e ∷ after) = FitsHere script past e × GoesOn script (e ∷ past) after
 
-serves_back : (script : Script) (front past : Past) → ServesLanes script (front ++ past) → ServesLanes script past
+pub serves_back : (script : Script) (front past : Past) → ServesLanes script (front ++ past) → ServesLanes script past
 serves_back script [] past serves = serves
 serves_back script (e ∷ front) past serves = serves_back script front past serves.1
 
