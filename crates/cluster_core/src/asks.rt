@@ -20,7 +20,7 @@ impl<D: FaultDir + Drop> Cluster<D> {
     ghost use Rattle.history_book.specs.Log.{printed, shown};
     ghost use Rattle.script_serving.specs.declared.script.LineCommand.{LineCommand};
     ghost use Rattle.script_serving.specs.declared.script.LineCommand.TheVariants.{Open, Close, Search, Ask, Files};
-    ghost use Rattle.cluster_state.specs.Run.{IsNow, IsEnded};
+    ghost use Rattle.cluster_state.specs.Run.{IsNow, KeepsRest, IsEnded};
     ghost use Rattle.cluster_core.specs.Doing.{Does, IsReplied, IsRepliedAtDone, IsBegunAtWork, AsksFor};
     ghost use Rattle.cluster_state.specs.Calls.{open_event, ListsFiles, SearchStarts, AskStarts, asked_event, close_by, ScansAt, AnswerEnds};
 
@@ -38,6 +38,7 @@ impl<D: FaultDir + Drop> Cluster<D> {
         requires number { t.0 ≢ 0 }
         ensures ok { OnOk result (IsNow self.old self.new (shown at
             (open_event at.lane.0 n t (printed self.old.log)) ∷ self.old.log)) }
+        ensures rest { OnOk result (KeepsRest self.old self.new) }
         ensures err { OnErr result (IsEnded self.old self.new) }
 
         // what the line is owed
@@ -58,6 +59,7 @@ impl<D: FaultDir + Drop> Cluster<D> {
         requires fresh { entries_of_line at (printed self.old.log) ≡ [] }
         requires node { IsNode self.old.nodes n.0 }
         ensures ok { IfOk result (SearchStarts at n self.old self.new) }
+        ensures rest { OnOk result (KeepsRest self.old self.new) }
         ensures err { OnErr result (IsEnded self.old self.new) }
 
         // what the line is owed, whatever it searches for
@@ -79,6 +81,7 @@ impl<D: FaultDir + Drop> Cluster<D> {
         requires running { self.old.ended ≡ false }
         requires fresh { entries_of_line at (printed self.old.log) ≡ [] }
         ensures ok { IfOk result (AskStarts at t self.old self.new) }
+        ensures rest { OnOk result (KeepsRest self.old self.new) }
         ensures err { OnErr result (IsEnded self.old self.new) }
 
         // what the line is owed, whatever it searches for
@@ -103,6 +106,7 @@ impl<D: FaultDir + Drop> Cluster<D> {
             (last_of_line at (printed self.old.log)) query.now answer }
         ensures ok { OnOk result (AnswerEnds at (last_of_line at (printed self.old.log))
             query.now answer self.old self.new) }
+        ensures rest { OnOk result (KeepsRest self.old self.new) }
         ensures err { OnErr result (IsEnded self.old self.new) }
 
         // what the line is owed
@@ -121,6 +125,7 @@ impl<D: FaultDir + Drop> Cluster<D> {
         requires fresh { entries_of_line at (printed self.old.log) ≡ [] }
         ensures ok { OnOk result (IsNow self.old self.new (shown at
             (close_by t (open_ticket at.lane.0 t.0 (printed self.old.log))) ∷ self.old.log)) }
+        ensures rest { OnOk result (KeepsRest self.old self.new) }
         ensures err { OnErr result (IsEnded self.old self.new) }
 
         // what the line is owed
@@ -136,6 +141,7 @@ impl<D: FaultDir + Drop> Cluster<D> {
         requires fresh { entries_of_line at (printed self.old.log) ≡ [] }
         requires node { IsNode self.old.nodes n.0 }
         ensures ok { OnOk result (ListsFiles at n self.old self.new) }
+        ensures rest { OnOk result (KeepsRest self.old self.new) }
         ensures err { OnErr result (IsEnded self.old self.new) }
 
         // what the line is owed

@@ -126,7 +126,7 @@ segment_document : (reads : Name → Content) (r : SegRecord) (s : Shown) → Is
 segment_document reads r s is live =
     some_document s.docs s.live (rows_same is.parts.live r s.live is.segment.live ∙ sym is.segment.docs_rows) (subst (λ (k : ℕ). 0 < k) (sym is.live) live)
 
-as_many : (reads : Name → Content) (records : List SegRecord) (segs : List Shown) → AllZip (IsSegmentIn reads) records segs → length segs ≡ length records
+pub as_many : (reads : Name → Content) (records : List SegRecord) (segs : List Shown) → AllZip (IsSegmentIn reads) records segs → length segs ≡ length records
 as_many reads [] [] each = refl
 as_many reads [] (s ∷ segs) each = absurd each
 as_many reads (r ∷ records) [] each = absurd each

@@ -13,7 +13,8 @@ use Rattle.disk_model.specs.Disk.{Cells, reads_of}
 use Rattle.seg_reader.specs.Shown.{Shown}
 use Rattle.history_rules.specs.declared.entry.Event.TheVariants.{Accepted, Publishing, Published}
 use Rattle.history_rules.specs.Nodes.{IsNode, primary_of, newest_version, generation_of, accepted_count}
-use Rattle.history_rules.specs.Lines.{same_at, publish_in_flight, is_free_for}
+use Rattle.history_rules.specs.Lines.{same_at, start_entry, is_answered, publish_in_flight, is_free_for}
+use Rattle.history_rules.specs.Faults.{has_met_fault}
 use Rattle.history_rules.specs.Points.{operations_of_generation, cut_of, cut_has_put, names_drawn, merges_started, idle_publishes}
 use Rattle.history_rules.specs.Legal.{KeepsRule, IsLegalPast}
 use Rattle.script_serving.specs.Refusals.{may_be_full}
@@ -23,6 +24,7 @@ use Rattle.merge_tasks.specs.Merging.{Sheet}
 use Rattle.history_book.specs.declared.inner.Inner.TheVariants.{FlushOut}
 use Rattle.history_book.specs.Laws.{IsFresh, Flying}
 use Rattle.history_book.specs.Turns.{AreInTurn}
+use Rattle.segment_infos.specs.declared.infos.Infos.{Infos}
 use Rattle.primary_state.specs.declared.parts.PrimaryParts.{PrimaryParts}
 use Rattle.primary_state.specs.Primary.{IsPrimary}
 use Rattle.primary_state.specs.Calls.{IsTaskOf, after_start, IsPublished}
@@ -41,13 +43,15 @@ use Rattle.cluster_nodes.specs.Places.{place_of, HasPrimary}
 use Rattle.cluster_state.specs.Run.{Rest, Run, IsNow}
 use Rattle.cluster_state.specs.State.{PrimaryShows, PlaceShows, Shows}
 use Rattle.cluster_state.specs.Merging.{NodeMerges, MergesStand}
-use Rattle.cluster_state.specs.Writes.{HandsFlush, IsFlushed}
+use Rattle.cluster_state.specs.Writes.{IsFull, HandsFlush, IsFlushed}
+use Rattle.cluster_state.specs.Sizes.{sizes_in}
+use Rattle.cluster_state.proofs.SizesTold.{sizes_count}
 use Rattle.cluster_state.proofs.Ledgers.{asked_of}
 use Rattle.cluster_state.proofs.Frames.{PutsBack, some_at, was, now_is, place_at, moved_at, moved_out}
 use Rattle.cluster_publish.proofs.Written.{accepted_place, started_place, published_place}
-use Rattle.cluster_publish.proofs.Filling.{is_full}
+use Rattle.cluster_publish.proofs.Filling.{as_many, is_full}
 use Rattle.cluster_publish.proofs.Primaries.{others_apart, primary_there, has_primary, numbered, unpublished, is_work}
-use Rattle.cluster_state.proofs.Turning.{fresh_line, log_is, nodes_is, past_has}
+use Rattle.cluster_state.proofs.Turning.{log_is, nodes_is, past_has}
 
 -- ---- what a call answered
 
@@ -60,14 +64,19 @@ err_at r x y is same = subst (λ (z : _). r ≡ Err z) same is
 pub on_err : {T E P : Type 0} (r : Result T E) (e : E) → r ≡ Err e → OnErr r P → P
 on_err {T} {E} {P} r e is holds = subst (λ (q : Result T E). OnErr q P) is holds
 
+-- a number that is drawn leaves the records
+pub drawn_segs : (is_there : Bool) (infos : Infos) → (infos_drawn is_there infos).segs ≡ infos.segs
+drawn_segs true infos = refl
+drawn_segs false infos = refl
+
 -- ---- rules
 
 pub may_accept : (r : Run) (ended : Bool) (b : Sheet) (at : At) (p : NodeNo) (seq : ℕ) (op : Op) → {left : Rest} → record { ended = ended; nodes = b.nodes; log = b.log; rest = left } ≡ r
-    → IsFresh at (printed b.log) → primary_of (printed r.log) ≡ Some p → seq ≡ accepted_count (printed b.log) + 1 → KeepsRule r.nodes (printed r.log) at (Accepted seq op)
-may_accept r ended b at p seq op view fresh primary next = record {
+    → (has_met_fault at (printed r.log) ≡ false) ⊎ (is_answered at (printed r.log) ≡ true) → primary_of (printed r.log) ≡ Some p → seq ≡ accepted_count (printed b.log) + 1 → KeepsRule r.nodes (printed r.log) at (Accepted seq op)
+may_accept r ended b at p seq op view spared primary next = record {
   running = λ none. some_none (sym primary ∙ none);
   next = past_has (λ q. seq ≡ accepted_count q + 1) r ended b view next;
-  spared = inl (past_has (IsFresh at) r ended b view fresh).spared;
+  spared = spared;
 }
   where
     some_none : Some p ≡ None → ⊥
@@ -157,6 +166,29 @@ module _ {D : Type 0} (cells : D → Cells) where
         is_full (printed r.log) (reads_of (cells p.dir)) p.infos.segs p.segs primary_at.whole.writer.stands.each primary_at.writer.live primary_at.writer.few primary_at.writer.documents many.2,
       )
 
+      -- a size is told for each of its segments
+      told_sizes : left.sizes ≡ sizes_in places → primary_of (printed r.log) ≡ Some n → length r.rest.sizes ≡ length p.segs
+      told_sizes told primary =
+          ap length (sym (ap (λ (z : Run). z.rest.sizes) view) ∙ told)
+          ∙ (sizes_count cells r.log r.nodes n.0 places p held node (there ∙ ap Some is) (λ m apart. others_apart (primary_of (printed r.log)) n m primary apart) (was cells r ended b.nodes b.log places view running shows)
+          ∙ sym (as_many (reads_of (cells p.dir)) p.infos.segs p.segs primary_at.whole.writer.stands.each))
+
+      -- which are as many as there may be
+      pub told_full : left.sizes ≡ sizes_in places → primary_of (printed r.log) ≡ Some n → AreTooMany p.waiting p.infos p.segs → IsFull r
+      told_full told primary many =
+          let count = told_sizes told primary in
+          let most : 256 ≤ length p.segs = many.2 in
+          let all : 256 ≤ length r.rest.sizes = omega (arith, count, most) in all
+
+      -- or a publish that draws a number has room for its segment
+      pub told_few : (q : PrimaryParts D) (task : FlushTask) → left.sizes ≡ sizes_in places → primary_of (printed r.log) ≡ Some n → IsTaskOf p task → q ≡ after_start p (Some task) → IsPrimary cells q
+          → cut_has_put (printed r.log) ≡ true → length r.rest.sizes < 256
+      told_few q task told primary t next whole put =
+          let count = told_sizes told primary in
+          let seg : IsSome task.seg = (subst (λ (ops : List Op). IsSome task.seg ↔ IsTrue (has_put ops)) (t.ops ∙ primary_at.waiting) (task_seg p task t)).1 put in
+          let few : length p.segs < 256 = (subst (IsPrimary cells) next whole).few seg in
+          omega (arith, count, few)
+
       -- the work is that of the publish in flight
       pub work_at : (at : At) (work : FlushWork) → IsLegalPast b.nodes (printed b.log) → AreInTurn (printed b.log) → publish_in_flight (printed r.log) ≡ Some at → IsFlushed at r.log work → IsWorkOf p work
       work_at at work legal turns flight flushed =
@@ -173,13 +205,15 @@ module _ {D : Type 0} (cells : D → Cells) where
       -- what is handed out stands in the log
       pub hands_out : {now : Rest} (b1 b2 b3 : Sheet) (at : At) (task : FlushTask) (segs : List Shown) → b1.log ≡ b.log → b1.nodes ≡ b.nodes → b2.log ≡ shown at Publishing ∷ b1.log → b2.nodes ≡ b1.nodes
           → b3.log ≡ kept (FlushOut at task.seg segs) ∷ b2.log → b3.nodes ≡ b2.nodes → IsFresh at (printed b.log) → segs ≡ task.segs → IsTaskOf p task
+          → (cut_has_put (printed r.log) ≡ true → length r.rest.sizes < 256)
           → HandsFlush at r (record { ended = false; nodes = b3.nodes; log = b3.log; rest = now }) task
-      hands_out b1 b2 b3 at task segs e1 n1 e2 n2 e3 n3 fresh same t = record {
+      hands_out b1 b2 b3 at task segs e1 n1 e2 n2 e3 n3 fresh same t few = record {
         now = record { running = refl; nodes = n3 ∙ (n2 ∙ (n1 ∙ nodes_is r ended b view)); log = log };
         out = ap (flush_out at) log ∙ (ap (λ (o : Option Handed). or_older o (if same_at at at then Some mine else None)) none ∙ ap (λ (c : Bool). if c then Some mine else None) (same_at_self at));
         ops = t.ops ∙ primary_at.waiting;
         seg = subst (λ (ops : List Op). IsSome task.seg ↔ IsTrue (has_put ops)) (t.ops ∙ primary_at.waiting) (task_seg p task t);
         sound = task_sound cells p task primary_at.whole t;
+        few = few;
       }
         where
           mine : Handed
@@ -224,15 +258,18 @@ module _ {D : Type 0} (cells : D → Cells) where
   pub accept_path : (r : Run) (ended : Bool) (b0 b1 b2 : Sheet) (old mid new : List (Option (NodePlace D))) (at : At) (n : NodeNo) (seq : ℕ) (op copy : Op) (x : NodePlace D) (p q : PrimaryParts D) (held : Vec HeldTicket Global)
       → {left : Rest} → record { ended = ended; nodes = b0.nodes; log = b0.log; rest = left } ≡ r → r.ended ≡ false → (ended ≡ false → Shows cells b0.log b0.nodes old)
       → b1.log ≡ b0.log → b1.nodes ≡ b0.nodes → b2.log ≡ shown at (Accepted seq op) ∷ b1.log → b2.nodes ≡ b1.nodes → IsLegalPast b1.nodes (printed b1.log) → AreInTurn (printed b1.log)
-      → IsFresh at (printed b0.log) → KeepsRule r.nodes (printed r.log) at (Accepted seq op) → IsNode r.nodes n.0 → primary_of (printed r.log) ≡ Some n
+      → start_entry at (printed r.log) ≡ None → KeepsRule r.nodes (printed r.log) at (Accepted seq op) → IsNode r.nodes n.0 → primary_of (printed r.log) ≡ Some n
       → PutsBack cells old mid new n.0 (record { node = Primary q; held = held }) → place_of old n.0 ≡ Some x → x ≡ record { node = Primary p; held = held }
       → copy ≡ op → q ≡ record p { waiting = p.waiting ++ copy ∷ []; accepted = p.accepted + 1 } → IsPrimary cells q → Shows cells b2.log b2.nodes new
-  accept_path r ended b0 b1 b2 old mid new at n seq op copy x p q held view running shows e1 n1 e2 n2 legal turns fresh keeps node primary put there is same next whole =
-      let line = fresh_line (printed r.log) at (past_has (IsFresh at) r ended b0 view fresh) in
+  accept_path r ended b0 b1 b2 old mid new at n seq op copy x p q held view running shows e1 n1 e2 n2 legal turns begun keeps node primary put there is same next whole =
+      let line : start_entry at (printed r.log) ≢ Some Publishing = λ is. none_some (sym begun ∙ is) in
       moved_at cells r ended b0 b1 b2 old mid new at (Accepted seq op) n.0 (record { node = Primary q; held = held }) x view running shows e1 n1 e2 n2 legal turns keeps
       (λ m apart here. line) (λ m apart. others_apart (primary_of (printed r.log)) n m primary apart) (λ m apart. refl) put node there
       (λ all order was. accepted_place cells r.nodes r.log at seq op n.0 p q held all order keeps line
       (subst (λ (o : Op). q ≡ record p { waiting = p.waiting ++ o ∷ []; accepted = p.accepted + 1 }) same next) whole (subst (PlaceShows cells r.log n.0) is was))
+    where
+      none_some : None ≡ Some Publishing → ⊥
+      none_some is = absurd (cc)
 
   pub start_path : (r : Run) (ended : Bool) (b0 b1 b2 b3 : Sheet) (old mid new : List (Option (NodePlace D))) (at : At) (n : NodeNo) (seg : Option SegNo) (segs : List Shown) (x : NodePlace D) (p q : PrimaryParts D) (held : Vec HeldTicket Global)
       → {left : Rest} → record { ended = ended; nodes = b0.nodes; log = b0.log; rest = left } ≡ r → r.ended ≡ false → (ended ≡ false → Shows cells b0.log b0.nodes old)

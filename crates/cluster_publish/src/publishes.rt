@@ -1,13 +1,13 @@
 //! What the primary accepts, and publishes.
 
-ghost use Rattle.std.specs.Prelude.{◌≡◌, ◌≢◌, ◌+◌, ◌∷◌, [], false, true, ◌==◌, Some, OnOk, OnErr, IfOk, IfSome};
+ghost use Rattle.std.specs.Prelude.{◌≡◌, ◌≢◌, ◌+◌, ◌∷◌, [], false, true, ◌==◌, None, Some, OnOk, OnErr, IfOk, IfSome};
 ghost use Rattle.history_rules.specs.Nodes.{IsNode, primary_crashes, primary_of, accepted_count};
-ghost use Rattle.history_rules.specs.Lines.{entries_of_line, last_of_line, start_entry, before_start, publish_in_flight};
+ghost use Rattle.history_rules.specs.Lines.{entries_of_line, is_answered, last_of_line, start_entry, before_start, publish_in_flight};
 ghost use Rattle.history_rules.specs.Commits.{is_disk_fault};
 ghost use Rattle.history_tables.specs.Begins.{open_line};
 ghost use Rattle.history_book.specs.Log.{printed, shown};
 ghost use Rattle.script_serving.specs.Refusals.{without_primary};
-ghost use Rattle.cluster_state.specs.Run.{IsNow, IsEnded};
+ghost use Rattle.cluster_state.specs.Run.{IsNow, KeepsRest, IsEnded};
 ghost use Rattle.cluster_state.specs.Writes.{IsFlushed};
 ghost use Rattle.cluster_state.specs.Calls.{by_refusal, cut_refusal as cut_refusal_lem, LineRefused, PublishStarts};
 ghost use Rattle.cluster_state.specs.GivesUp.{EndsPublish};
@@ -34,10 +34,33 @@ pub fn accept<D: FaultDir + Drop>(
     ensures ok { OnOk result (IsNow state.old state.new (shown at
         (by_refusal (without_primary (printed state.old.log))
         (Event.Accepted (accepted_count (printed state.old.log) + 1) op)) ∷ state.old.log)) }
+    ensures rest { OnOk result (KeepsRest state.old state.new) }
     ensures err { OnErr result (IsEnded state.old state.new) }
 {
     match state.primary() {
         None => refuse(state, at, Cause::NoPrimary),
+        Some(p) => accept_at(alloc, state, at, p, op),
+    }
+}
+
+/// Accepts an operation again, for a line that has its reply, while a primary runs.
+pub fn accept_again<D: FaultDir + Drop>(
+    state: &mut ClusterState<D>,
+    alloc: Global,
+    at: At,
+    op: Op,
+) -> Result<(), NoMemory>
+    requires running { state.old.ended ≡ false }
+    requires begun { start_entry at (printed state.old.log) ≡ None }
+    requires replied { is_answered at (printed state.old.log) ≡ true }
+    requires primary { primary_of (printed state.old.log) ≢ None }
+    ensures ok { OnOk result (IsNow state.old state.new (shown at
+        (Event.Accepted (accepted_count (printed state.old.log) + 1) op) ∷ state.old.log)) }
+    ensures rest { OnOk result (KeepsRest state.old state.new) }
+    ensures err { OnErr result (IsEnded state.old state.new) }
+{
+    match state.primary() {
+        None => unreachable!(),
         Some(p) => accept_at(alloc, state, at, p, op),
     }
 }
@@ -66,6 +89,7 @@ pub fn publish_start<D: FaultDir + Drop>(
     requires running { state.old.ended ≡ false }
     requires fresh { entries_of_line at (printed state.old.log) ≡ [] }
     ensures ok { IfOk result (PublishStarts at state.old state.new) }
+    ensures rest { OnOk result (KeepsRest state.old state.new) }
     ensures err { OnErr result (IsEnded state.old state.new) }
 {
     let Some(p) = state.primary() else {

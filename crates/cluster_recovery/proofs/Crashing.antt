@@ -180,6 +180,7 @@ module _ (past : Past) (at : At) (n : NodeNo) where
   none_held : (held : List HeldTicket) → held ≡ [] → HoldsTickets crashed n.0 [] held
   none_held held none = subst (HoldsTickets crashed n.0 []) (sym none) (record {
     each = λ key number is. absurd (none-some number is);
+    out = λ key number is. absurd (none-some number is);
     apart = λ a b number is is'. absurd (none-some number is);
     opened = λ lane t v is. absurd (no_ticket lane t v is);
     searched = λ a v is. absurd (no_search a v is);

@@ -91,6 +91,7 @@ slice_get_before (x ∷ xs) ys (suc i) h = slice_get_before xs ys i (omega arith
 pub nothing_held : (n : ℕ) (tickets : List (Open Shown)) → HoldsTickets [] n tickets []
 nothing_held n tickets = record {
   each = λ key number is. absurd (none-some number is);
+  out = λ key number is. absurd (none-some number is);
   apart = λ a b number is is'. absurd (none-some number is);
   opened = λ lane t v is. none_open v (t == 0) is;
   searched = λ at v is. absurd is.line;

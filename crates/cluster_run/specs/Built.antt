@@ -1,5 +1,5 @@
 -- Which scripts are run so far.
-use Rattle.std.specs.Prelude.{◌≡◌, Bool, true, false, IsTrue}
+use Rattle.std.specs.Prelude.{Bool, true, false, IsTrue}
 use Rattle.std.specs.List.{list_all}
 use Rattle.script_serving.specs.declared.script.LineCommand.{LineCommand}
 use Rattle.script_serving.specs.declared.script.LineCommand.TheVariants.{Fault}
@@ -11,7 +11,6 @@ abbrev pub is_run : LineCommand → Bool
 is_run (Fault n plan) = false
 is_run command = true
 
--- a script without a log, of lines that are run
-pub record IsPlainScript (script : Script) : Type 0 where
-  pub log : script.log ≡ false
-  pub commands : IsTrue (list_all (λ line. is_run line.command) (lines_of script))
+-- a script of lines that are run
+abbrev pub IsPlainScript : Script → Type 0
+IsPlainScript script = IsTrue (list_all (λ line. is_run line.command) (lines_of script))

@@ -1,13 +1,15 @@
 //! A whole script.
 
-ghost use Rattle.std.specs.Prelude.{◌≡◌, ◌≤◌, false, IfOk, OnOk, length};
+ghost use Rattle.std.specs.Prelude.{◌≡◌, ◌≤◌, [], false, IfOk, OnOk, length};
 ghost use Rattle.std.specs.List.{All};
 ghost use Rattle.history_rules.specs.Legal.{IsLegal};
 ghost use Rattle.history_book.specs.Told.{IsTold};
 ghost use Rattle.script_serving.specs.Form.{IsInForm};
 ghost use Rattle.script_serving.specs.Serves.{Serves};
-ghost use Rattle.disk_memory.specs.Memory.{cells_in};
+ghost use Rattle.disk_memory.specs.Memory.{cells_in, known_plans};
+ghost use Rattle.trans_log.specs.Logs.{SameLogs, IsCalm};
 ghost use Rattle.cluster_state.specs.Starting.{IsEmptyDir};
+ghost use Rattle.lane_sections.specs.Given.{is_logged};
 ghost use Rattle.cluster_run.specs.Built.{IsPlainScript};
 ghost use Rattle.cluster_run.specs.Running.{history_of};
 
@@ -16,17 +18,28 @@ use crate::runner::ClusterLines;
 use cluster_nodes::NodePlace;
 use cluster_state::ClusterState;
 use disk_memory::MemDir;
-use lane_sections::{Cluster, Gate};
+use lane_sections::{Cluster, Gate, Site};
+use lane_threads::Setup;
 use merge_tasks::{Ledger, Tasks};
 use nrt_base::NoMemory;
 use script_serving::Script;
 use std::alloc::Global;
 use std::sync::Wait;
 use std::thread::Threads;
+use trans_log::TransLog;
 
 // An empty directory in memory.
 fn empty_dir(alloc: Global) -> Result<MemDir, NoMemory>
     ensures { IfOk result (λ dir. IsEmptyDir (cells_in dir)) }
+{
+    MemDir::new(alloc)
+}
+
+// An empty directory for a log, for which no fault is planned.
+fn log_dir(alloc: Global) -> Result<MemDir, NoMemory>
+    ensures empty { IfOk result (λ dir. IsEmptyDir (cells_in dir)) }
+    ensures same { IfOk result (λ dir. SameLogs (cells_in dir)) }
+    ensures calm { IfOk result (λ dir. IsCalm (known_plans dir)) }
 {
     MemDir::new(alloc)
 }
@@ -43,8 +56,23 @@ fn empty_dirs(alloc: Global, count: u8) -> Result<Vec<MemDir>, NoMemory>
     Ok(dirs)
 }
 
-/// Runs a script on a new cluster, its lanes in threads of their own, and answers the cluster as the script leaves it. `Err` is want of
-/// memory alone.
+// A new site for a script, with a log where the script has one.
+fn new_site(alloc: Global, script: &Script) -> Result<Site<MemDir>, NoMemory>
+    requires { IsInForm script.now }
+    ensures running { IfOk result (λ s. s.run.ended ≡ false) }
+    ensures nodes { IfOk result (λ s. s.run.nodes ≡ script.now.nodes) }
+    ensures logged { IfOk result (λ s. is_logged s ≡ script.now.log) }
+    ensures log { IfOk result (λ s. s.run.log ≡ []) }
+{
+    let dirs = empty_dirs(alloc, script.nodes)?;
+    if script.log {
+        return Site::start_with_log(alloc, dirs, log_dir(alloc)?);
+    }
+    Site::start(alloc, dirs)
+}
+
+/// Runs a script on a new cluster, its lanes in threads of their own, and answers the cluster as the script leaves it. Where the script has
+/// `log`, the site has one, which a promotion replays. `Err` is want of memory alone.
 ///
 /// Whatever the lanes' threads do in between, the history is legal and serves the script, and each printed entry tells what is so of
 /// inner work.
@@ -66,10 +94,16 @@ pub fn run_script<R: Threads + Wait + Sync, G: Gate + Sync>(
     sent::<Tasks>();
     sent::<Vec<Option<NodePlace<MemDir>>>>();
     sent::<ClusterState<MemDir>>();
-    let nodes = script.nodes;
-    let cluster = Cluster::start(alloc, empty_dirs(alloc, nodes)?)?;
-    let lines = ClusterLines { alloc, nodes, gate };
-    let left = lane_threads::run_script(rt, alloc, &lines, cluster, script)?;
-    left.ended();
-    Ok(left)
+    sent::<Cluster<MemDir>>();
+    sent::<TransLog<MemDir>>();
+    let setup = Setup {
+        nodes: script.nodes,
+        log: script.log,
+    };
+    let site = new_site(alloc, script)?;
+    let lines = ClusterLines { alloc, setup, gate };
+    let left = lane_threads::run_script(rt, alloc, &lines, site, script)?;
+    let cluster = left.into_cluster();
+    cluster.ended();
+    Ok(cluster)
 }

@@ -1,5 +1,5 @@
 -- What a node holds after a ticket of it was closed.
-use Rattle.std.proofs.Common.{◌≡◌, ◌≢◌, ℕ, Bool, false, true≢false, List, ◌∷◌, Some, None, Option, refl, ap, ◌∙◌, sym, subst, if◌then◌else◌}
+use Rattle.std.proofs.Common.{◌≡◌, ◌≢◌, ℕ, Bool, true, false, true≢false, List, ◌∷◌, Some, None, Option, refl, ap, ◌∙◌, sym, subst, if◌then◌else◌}
 use Rattle.std.specs.Prelude.{IsSomeAnd}
 use Rattle.seg_reader.specs.Shown.{Shown}
 use Rattle.searcher_switch.specs.declared.open.Open.{Open}
@@ -13,6 +13,7 @@ use Rattle.cluster_nodes.specs.declared.held.HeldKey.{HeldKey}
 use Rattle.cluster_nodes.specs.declared.held.HeldKey.TheVariants.{Search}
 use Rattle.cluster_nodes.specs.Held.{same_key, held_number}
 use Rattle.cluster_state.specs.Lookups.{IsSearching}
+use Rattle.cluster_state.specs.TicketsOut.{is_ticket_out}
 use Rattle.cluster_state.specs.State.{StandForVersion, HoldsAt, ticket_key, HoldsTickets, PlaceShows}
 use Rattle.disk_model.specs.Disk.{Cells}
 use Rattle.history_rules.specs.declared.entry.Event.{Event}
@@ -67,10 +68,12 @@ module _ (past now : Past) (n : ℕ) (key : HeldKey) (tickets after : List (Open
   pub holds_less : ((w : ℕ) (segs : List Shown) → StandForVersion past w segs → StandForVersion now w segs)
       → ((lane t w : ℕ) → IsTicketOf n w (open_ticket lane t now) → (same_key key (ticket_key lane t) ≡ false) × IsTicketOf n w (open_ticket lane t past))
       → ((a : At) (w : ℕ) → IsSearching now a n w → (same_key key (Search a) ≡ false) × IsSearching past a n w)
+      → ((k : HeldKey) → same_key key k ≡ false → is_ticket_out n k past ≡ true → is_ticket_out n k now ≡ true)
       → HoldsTickets past n tickets held → HoldsTickets now n after rows
-  holds_less stands opened searched was = record {
+  holds_less stands opened searched out was = record {
     each = λ k m is. let old = row_was k m is in
         left_by (λ o. StandForVersion now o.point.version.0 o.point.readers) (held_number held key) m tickets after closed (other_number was k m old.0 old.1) (some_then (ticket_at m tickets) (was.each k m old.1) (λ o s. stands o.point.version.0 o.point.readers s));
+    out = λ k m is. let old = row_was k m is in out k old.0 (was.out k m old.1);
     apart = λ a b m is is'. was.apart a b m (row_was a m is).1 (row_was b m is').1;
     opened = λ lane t w is. let old = opened lane t w is in held_left was (ticket_key lane t) w old.0 (was.opened lane t w old.1);
     searched = λ a w is. let old = searched a w is in held_left was (Search a) w old.0 (was.searched a w old.1);
@@ -92,5 +95,5 @@ module _ {D : Type 0} (cells : D → Cells) where
     tickets = holds_less (printed log) (printed (shown at e ∷ log)) n key (tickets_of old.node) (tickets_of new.node) old.held.items new.held.items
         (closes (held_number old.held.items key) old.node new.node less.closed) less.rows
         (λ w segs stands. stands_more size (printed log) (record { at = at; event = e }) w segs (keeps, legal) stands)
-        ends.tickets ends.searches was.tickets;
+        ends.tickets ends.searches ends.out was.tickets;
   }

@@ -25,6 +25,7 @@ use Rattle.cluster_nodes.specs.declared.nodes.Node.{Node}
 use Rattle.cluster_nodes.specs.declared.nodes.Node.TheVariants.{Primary, Replica, Down}
 use Rattle.cluster_nodes.specs.Held.{same_key, held_number}
 use Rattle.cluster_state.specs.Lookups.{IsSearching}
+use Rattle.cluster_state.specs.TicketsOut.{is_ticket_out}
 use Rattle.cluster_state.specs.State.{StandForVersion, IsPointAt, IsOpenOn, HoldsAt, ticket_key, HoldsTickets, FlightShows, WritesAt, PrimaryShows, ReplicaShows, NodeShows}
 use Rattle.cluster_nodes.specs.Changes.{KeepsNode}
 use Rattle.cluster_nodes.proofs.Keys.{same_key_is}
@@ -126,12 +127,21 @@ module _ (past now : Past) (n number v : ℕ) (key : HeldKey) (point : SearchPoi
           let here : Some number ≡ Some m = sym (row_new k sk) ∙ ik in let eq : number ≡ m = cc in
           not_fresh (λ o. StandForVersion past o.point.version.0 o.point.readers) (ticket_at m tickets) (was.each l m (sym (row_old l ol) ∙ il)) (subst (λ (j : ℕ). is_some (ticket_at j tickets) ≡ false) eq fresh)
 
+  -- the new one is out, and so are the others still
+  out_more : ((k : HeldKey) → same_key key k ≡ true → is_ticket_out n k now ≡ true) → ((k : HeldKey) → is_ticket_out n k past ≡ true → is_ticket_out n k now ≡ true) → HoldsTickets past n tickets held
+      → (k : HeldKey) (m : ℕ) → held_number rows k ≡ Some m → is_ticket_out n k now ≡ true
+  out_more mine others was k m is =
+      by_test (same_key key k) (λ b. same_key key k ≡ b → is_ticket_out n k now ≡ true)
+      (λ same q. mine k same) (λ apart q. others k (was.out k m (sym (row_old k apart) ∙ is))) refl
+
   pub holds_more : ((w : ℕ) (segs : List Shown) → StandForVersion past w segs → StandForVersion now w segs) → IsPointAt now v point
+      → ((k : HeldKey) → same_key key k ≡ true → is_ticket_out n k now ≡ true) → ((k : HeldKey) → is_ticket_out n k past ≡ true → is_ticket_out n k now ≡ true)
       → ((lane t w : ℕ) → IsTicketOf n w (open_ticket lane t now) → IsNewOr (same_key key (ticket_key lane t)) v w (IsTicketOf n w (open_ticket lane t past)))
       → ((a : At) (w : ℕ) → IsSearching now a n w → IsNewOr (same_key key (Search a)) v w (IsSearching past a n w))
       → HoldsTickets past n tickets held → HoldsTickets now n after rows
-  holds_more stands at opened searched was = record {
+  holds_more stands at mine others opened searched was = record {
     each = each_more stands at was;
+    out = out_more mine others was;
     apart = apart_more was;
     opened = λ lane t w is. ⊎_elim (λ new. held_new (ticket_key lane t) w at.version new.0 new.1) (λ old. held_old (ticket_key lane t) w old.0 (was.opened lane t w old.1)) (opened lane t w is);
     searched = λ a w is. ⊎_elim (λ new. held_new (Search a) w at.version new.0 new.1) (λ old. held_old (Search a) w old.0 (was.searched a w old.1)) (searched a w is);

@@ -1,6 +1,8 @@
 -- What a node shows after a ticket of it was opened, for a lane or for a search.
-use Rattle.std.proofs.Common.{◌≡◌, ◌≢◌, ℕ, true, false, true≢false, List, [], ◌∷◌, ◌++◌, Some, refl, ◌∙◌, sym, subst, if◌then◌else◌}
-use Rattle.std.specs.Prelude.{IfSome, is_some, IsSome}
+use Rattle.std.proofs.Common.{◌≡◌, ◌≢◌, ◌==◌, ◌&&◌, ℕ, Bool, true, false, true≢false, List, [], ◌∷◌, ◌++◌, Some, refl, ap, ◌∙◌, sym, subst, if◌then◌else◌}
+use Rattle.std.specs.Prelude.{IfSome, is_some, IsSome, ◌||◌}
+use Rattle.std.proofs.lemmas.Bool.{eq-eqb}
+use Rattle.std.proofs.Math.Bool.{or-true}
 use Rattle.nrt_base.specs.declared.numbers.At.{At}
 use Rattle.nrt_base.specs.declared.numbers.NodeNo.{NodeNo}
 use Rattle.nrt_base.specs.declared.numbers.TicketNo.{TicketNo}
@@ -25,6 +27,7 @@ use Rattle.cluster_nodes.specs.declared.nodes.Node.TheVariants.{Primary, Replica
 use Rattle.cluster_nodes.specs.declared.nodes.NodePlace.{NodePlace}
 use Rattle.cluster_nodes.specs.Held.{same_key, held_number}
 use Rattle.cluster_state.specs.Lookups.{IsSearching}
+use Rattle.cluster_state.specs.TicketsOut.{key_by, is_ticket_out}
 use Rattle.cluster_nodes.specs.Places.{searchers_of, tickets_of}
 use Rattle.cluster_state.specs.State.{StandForVersion, IsPointAt, ticket_key, HoldsTickets, NodeShows, PlaceShows}
 use Rattle.cluster_nodes.specs.Changes.{KeepsNode, HoldsMore}
@@ -39,14 +42,24 @@ TicketsAfter past now n key v = (lane u w : ℕ) → IsTicketOf n w (open_ticket
 abbrev pub SearchesAfter : Past → Past → ℕ → HeldKey → ℕ → Type 0
 SearchesAfter past now n key v = (a : At) (w : ℕ) → IsSearching now a n w → IsNewOr (same_key key (Search a)) v w (IsSearching past a n w)
 
+-- what was opened is out
+out_new : (past : Past) (at : At) (n : NodeNo) (t : TicketNo) (v : Version) (k : HeldKey) → same_key (key_by at t) k ≡ true → is_ticket_out n.0 k (record { at = at; event = Opened n t v } ∷ past) ≡ true
+out_new past at n t v k same =
+    let here : (n.0 == n.0) ≡ true = eq-eqb n.0 n.0 refl in
+    ap (λ (b : Bool). (b && same_key (key_by at t) k) || is_ticket_out n.0 k past) here ∙ ap (λ (b : Bool). b || is_ticket_out n.0 k past) same
+
+-- and what was out still is
+out_old : (past : Past) (at : At) (n : NodeNo) (t : TicketNo) (v : Version) (k : HeldKey) → is_ticket_out n.0 k past ≡ true → is_ticket_out n.0 k (record { at = at; event = Opened n t v } ∷ past) ≡ true
+out_old past at n t v k was = ap (λ (b : Bool). ((n.0 == n.0) && same_key (key_by at t) k) || b) was ∙ or-true ((n.0 == n.0) && same_key (key_by at t) k)
+
 module _ {D : Type 0} (cells : D → Cells) where
   opened_on : (size : ℕ) (log : Log) (at : At) (n : NodeNo) (t : TicketNo) (v : Version) (key : HeldKey) (s : Searchers Shown) (after : List (Open Shown)) (held rows : List HeldTicket) (number : ℕ)
-      → IsLegalPast size (printed log) → KeepsRule size (printed log) at (Opened n t v) → v.0 ≡ version_of n.0 (printed log)
+      → key_by at t ≡ key → IsLegalPast size (printed log) → KeepsRule size (printed log) at (Opened n t v) → v.0 ≡ version_of n.0 (printed log)
       → is_some (ticket_at number s.tickets) ≡ false → after ≡ s.tickets ++ record { number = number; point = s.point } ∷ []
       → ((k : HeldKey) → held_number rows k ≡ (if same_key key k then Some number else held_number held k))
       → TicketsAfter (printed log) (printed (shown at (Opened n t v) ∷ log)) n.0 key v.0 → SearchesAfter (printed log) (printed (shown at (Opened n t v) ∷ log)) n.0 key v.0
       → IsPointAt (printed log) (version_of n.0 (printed log)) s.point → HoldsTickets (printed log) n.0 s.tickets held → HoldsTickets (printed (shown at (Opened n t v) ∷ log)) n.0 after rows
-  opened_on size log at n t v key s after held rows number legal keeps version fresh more holds opened searched point was =
+  opened_on size log at n t v key s after held rows number kind legal keeps version fresh more holds opened searched point was =
       holds_more (printed log) (printed (shown at (Opened n t v) ∷ log)) n.0 number v.0 key s.point s.tickets after held rows fresh more holds
       (λ w segs stands. stands_more size (printed log) (record { at = at; event = Opened n t v }) w segs (keeps, legal) stands)
       (record {
@@ -54,30 +67,31 @@ module _ {D : Type 0} (cells : D → Cells) where
         stands = stands_more size (printed log) (record { at = at; event = Opened n t v }) v.0 s.point.readers (keeps, legal)
             (subst (λ (k : ℕ). StandForVersion (printed log) k s.point.readers) (sym version) point.stands);
       })
+      (λ k same. out_new (printed log) at n t v k (ap (λ (l : HeldKey). same_key l k) kind ∙ same)) (λ k had. out_old (printed log) at n t v k had)
       opened searched was
 
   opened_tickets : (size : ℕ) (log : Log) (at : At) (n : NodeNo) (t : TicketNo) (v : Version) (key : HeldKey) (x : Node D) (after : List (Open Shown)) (held rows : List HeldTicket) (number : ℕ)
-      → IsLegalPast size (printed log) → KeepsRule size (printed log) at (Opened n t v) → v.0 ≡ version_of n.0 (printed log)
+      → key_by at t ≡ key → IsLegalPast size (printed log) → KeepsRule size (printed log) at (Opened n t v) → v.0 ≡ version_of n.0 (printed log)
       → is_some (ticket_at number (tickets_of x)) ≡ false → IfSome (searchers_of x) (λ s. after ≡ s.tickets ++ record { number = number; point = s.point } ∷ [])
       → ((k : HeldKey) → held_number rows k ≡ (if same_key key k then Some number else held_number held k))
       → TicketsAfter (printed log) (printed (shown at (Opened n t v) ∷ log)) n.0 key v.0 → SearchesAfter (printed log) (printed (shown at (Opened n t v) ∷ log)) n.0 key v.0
       → NodeShows cells log n.0 x → HoldsTickets (printed log) n.0 (tickets_of x) held → HoldsTickets (printed (shown at (Opened n t v) ∷ log)) n.0 after rows
-  opened_tickets size log at n t v key (Primary p) after held rows number legal keeps version fresh more holds opened searched shows was =
-      opened_on size log at n t v key p.searchers after held rows number legal keeps version fresh more holds opened searched shows.point was
-  opened_tickets size log at n t v key (Replica r) after held rows number legal keeps version fresh more holds opened searched shows was =
-      opened_on size log at n t v key r.searchers after held rows number legal keeps version fresh more holds opened searched shows.point was
-  opened_tickets size log at n t v key (Down d) after held rows number legal keeps version fresh more holds opened searched shows was =
+  opened_tickets size log at n t v key (Primary p) after held rows number kind legal keeps version fresh more holds opened searched shows was =
+      opened_on size log at n t v key p.searchers after held rows number kind legal keeps version fresh more holds opened searched shows.point was
+  opened_tickets size log at n t v key (Replica r) after held rows number kind legal keeps version fresh more holds opened searched shows was =
+      opened_on size log at n t v key r.searchers after held rows number kind legal keeps version fresh more holds opened searched shows.point was
+  opened_tickets size log at n t v key (Down d) after held rows number kind legal keeps version fresh more holds opened searched shows was =
       absurd (true≢false (sym keeps.running ∙ shows.down))
 
   pub opened_place : (size : ℕ) (log : Log) (at : At) (n : NodeNo) (t : TicketNo) (v : Version) (key : HeldKey) (old new : NodePlace D)
-      → IsLegalPast size (printed log) → AreInTurn (printed log) → KeepsRule size (printed log) at (Opened n t v) → start_entry at (printed log) ≢ Some Publishing → v.0 ≡ version_of n.0 (printed log)
+      → key_by at t ≡ key → IsLegalPast size (printed log) → AreInTurn (printed log) → KeepsRule size (printed log) at (Opened n t v) → start_entry at (printed log) ≢ Some Publishing → v.0 ≡ version_of n.0 (printed log)
       → KeepsNode cells old.node new.node → HoldsMore key old new
       → TicketsAfter (printed log) (printed (shown at (Opened n t v) ∷ log)) n.0 key v.0 → SearchesAfter (printed log) (printed (shown at (Opened n t v) ∷ log)) n.0 key v.0
       → PlaceShows cells log n.0 old → PlaceShows cells (shown at (Opened n t v) ∷ log) n.0 new
-  opened_place size log at n t v key old new legal turns keeps line version kept more opened searched was = record {
+  opened_place size log at n t v key old new kind legal turns keeps line version kept more opened searched was = record {
     node_shows = node_kept cells (shown at (Opened n t v) ∷ log) n.0 old.node new.node kept
         (node_same cells log (shown at (Opened n t v) ∷ log) n.0 old.node (same size n.0 (printed log) at (Opened n t v) legal turns keeps (λ _. not_flying size (printed log) at legal turns line) refl) (λ a h there. there) was.node_shows);
-    tickets = opened_tickets size log at n t v key old.node (tickets_of new.node) old.held.items new.held.items more.number legal keeps version more.opens.fresh more.opens.tickets more.rows opened searched was.node_shows was.tickets;
+    tickets = opened_tickets size log at n t v key old.node (tickets_of new.node) old.held.items new.held.items more.number kind legal keeps version more.opens.fresh more.opens.tickets more.rows opened searched was.node_shows was.tickets;
   }
 
   -- a running node has searchers

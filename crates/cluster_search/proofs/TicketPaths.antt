@@ -1,5 +1,5 @@
 -- What each path of tickets and searches leaves, from what its calls say.
-use Rattle.std.proofs.Common.{◌≡◌, ◌≢◌, ◌==◌, ℕ, Bool, true, false, List, ◌∷◌, Some, Option, refl, sym, subst, arith, if◌then◌else◌}
+use Rattle.std.proofs.Common.{◌≡◌, ◌≢◌, ◌==◌, ℕ, Bool, true, false, List, ◌∷◌, Some, Option, refl, ap, sym, subst, arith, if◌then◌else◌}
 use Rattle.std.specs.Prelude.{IfSome, IsSome, is_some}
 use Rattle.std.proofs.lemmas.Bool.Decides.{nat_tests}
 use Rattle.nrt_base.specs.declared.numbers.At.{At}
@@ -27,6 +27,7 @@ use Rattle.cluster_nodes.specs.declared.held.HeldKey.TheVariants.{Ticket as Tick
 use Rattle.cluster_nodes.specs.declared.nodes.NodePlace.{NodePlace}
 use Rattle.cluster_nodes.specs.Held.{held_number}
 use Rattle.cluster_nodes.specs.Places.{place_of, searchers_of, tickets_of}
+use Rattle.cluster_state.specs.TicketsOut.{key_by}
 use Rattle.cluster_state.specs.Run.{Rest, Run}
 use Rattle.cluster_state.specs.State.{ReadsAt, Shows}
 use Rattle.cluster_nodes.specs.Changes.{KeepsNode, HoldsMore, HoldsLess, HoldsTicket, IsLeaseUnder}
@@ -75,14 +76,14 @@ module _ {D : Type 0} (cells : D → Cells) where
   opened_path : (r : Run) (ended : Bool) (b0 b1 b2 : Sheet) (old mid new : List (Option (NodePlace D))) (at : At) (n : NodeNo) (t : TicketNo) (v : Version) (key : HeldKey) (x y : NodePlace D)
       → {left : Rest} → record { ended = ended; nodes = b0.nodes; log = b0.log; rest = left } ≡ r → r.ended ≡ false → (ended ≡ false → Shows cells b0.log b0.nodes old)
       → b1.log ≡ b0.log → b1.nodes ≡ b0.nodes → b2.log ≡ shown at (Opened n t v) ∷ b1.log → b2.nodes ≡ b1.nodes → IsLegalPast b1.nodes (printed b1.log) → AreInTurn (printed b1.log)
-      → IsFresh at (printed b0.log) → KeepsRule r.nodes (printed r.log) at (Opened n t v)
+      → IsFresh at (printed b0.log) → KeepsRule r.nodes (printed r.log) at (Opened n t v) → key_by at t ≡ key
       → TicketsAfter (printed r.log) (printed (shown at (Opened n t v) ∷ r.log)) n.0 key v.0 → SearchesAfter (printed r.log) (printed (shown at (Opened n t v) ∷ r.log)) n.0 key v.0
       → PutsBack cells old mid new n.0 y → place_of old n.0 ≡ Some x → KeepsNode cells x.node y.node → HoldsMore key x y → Shows cells b2.log b2.nodes new
-  opened_path r ended b0 b1 b2 old mid new at n t v key x y view running shows e1 n1 e2 n2 legal turns fresh keeps opened searched put there same more =
+  opened_path r ended b0 b1 b2 old mid new at n t v key x y view running shows e1 n1 e2 n2 legal turns fresh keeps kind opened searched put there same more =
       let line = fresh_line (printed r.log) at (past_has (IsFresh at) r ended b0 view fresh) in
       moved_at cells r ended b0 b1 b2 old mid new at (Opened n t v) n.0 y x view running shows e1 n1 e2 n2 legal turns keeps
       (λ m apart here. line) (λ m apart. refl) (λ m apart. apart) put keeps.node there
-      (λ all order was. opened_place cells r.nodes r.log at n t v key x y all order keeps line keeps.searched same more opened searched was)
+      (λ all order was. opened_place cells r.nodes r.log at n t v key x y kind all order keeps line keeps.searched same more opened searched was)
 
   pub ticket_path : (r : Run) (ended : Bool) (b0 b1 b2 : Sheet) (old mid new : List (Option (NodePlace D))) (at : At) (n : NodeNo) (t : TicketNo) (v : Version) (x y : NodePlace D)
       → {left : Rest} → record { ended = ended; nodes = b0.nodes; log = b0.log; rest = left } ≡ r → r.ended ≡ false → (ended ≡ false → Shows cells b0.log b0.nodes old)
@@ -92,7 +93,7 @@ module _ {D : Type 0} (cells : D → Cells) where
   ticket_path r ended b0 b1 b2 old mid new at n t v x y view running shows e1 n1 e2 n2 legal turns fresh keeps number put there same more =
       let some : (t.0 == 0) ≡ false = grind (arith, nat_tests) in
       opened_path r ended b0 b1 b2 old mid new at n t v (TicketKey at.lane t) x y view running shows e1 n1 e2 n2 legal turns fresh keeps
-      (λ lane u w is. ticket_opened (printed r.log) at n t v lane u w some is) (λ a w is. ticket_searched (printed r.log) at n t v a w some is) put there same more
+      (ap (λ (b : Bool). if b then Search at else TicketKey at.lane t) some) (λ lane u w is. ticket_opened (printed r.log) at n t v lane u w some is) (λ a w is. ticket_searched (printed r.log) at n t v a w some is) put there same more
 
   pub search_path : (r : Run) (ended : Bool) (b0 b1 b2 : Sheet) (old mid new : List (Option (NodePlace D))) (at : At) (n : NodeNo) (v : Version) (x y : NodePlace D)
       → {left : Rest} → record { ended = ended; nodes = b0.nodes; log = b0.log; rest = left } ≡ r → r.ended ≡ false → (ended ≡ false → Shows cells b0.log b0.nodes old)
@@ -101,18 +102,18 @@ module _ {D : Type 0} (cells : D → Cells) where
       → PutsBack cells old mid new n.0 y → place_of old n.0 ≡ Some x → KeepsNode cells x.node y.node → HoldsMore (Search at) x y → Shows cells b2.log b2.nodes new
   search_path r ended b0 b1 b2 old mid new at n v x y view running shows e1 n1 e2 n2 legal turns fresh keeps put there same more =
       opened_path r ended b0 b1 b2 old mid new at n (record { 0 = 0 }) v (Search at) x y view running shows e1 n1 e2 n2 legal turns fresh keeps
-      (λ lane u w is. search_ticket (printed r.log) at n v lane u w is) (λ a w is. search_opened (printed r.log) at n v a w is) put there same more
+      refl (λ lane u w is. search_ticket (printed r.log) at n v lane u w is) (λ a w is. search_opened (printed r.log) at n v a w is) put there same more
 
   -- a ticket was given back
   pub without_path : (r : Run) (ended : Bool) (b0 b1 b2 : Sheet) (old mid new : List (Option (NodePlace D))) (at : At) (e : Event) (n : ℕ) (key : HeldKey) (x y : NodePlace D)
       → {left : Rest} → record { ended = ended; nodes = b0.nodes; log = b0.log; rest = left } ≡ r → r.ended ≡ false → (ended ≡ false → Shows cells b0.log b0.nodes old)
       → b1.log ≡ b0.log → b1.nodes ≡ b0.nodes → b2.log ≡ shown at e ∷ b1.log → b2.nodes ≡ b1.nodes → IsLegalPast b1.nodes (printed b1.log) → AreInTurn (printed b1.log)
-      → KeepsRule r.nodes (printed r.log) at e → start_entry at (printed r.log) ≢ Some Publishing → ((p : Option NodeNo) (m : ℕ) → moves e p m ≡ false) → ((m : ℕ) → moves_tickets e m ≡ false)
+      → KeepsRule r.nodes (printed r.log) at e → start_entry at (printed r.log) ≢ Some Publishing → ((p : Option NodeNo) (m : ℕ) → moves e p m ≡ false) → ((m : ℕ) → (n == m) ≡ false → moves_tickets e m ≡ false)
       → IsNode r.nodes n → EndsKey (printed r.log) (printed (shown at e ∷ r.log)) n key
       → PutsBack cells old mid new n y → place_of old n ≡ Some x → KeepsNode cells x.node y.node → HoldsLess key x y → Shows cells b2.log b2.nodes new
   without_path r ended b0 b1 b2 old mid new at e n key x y view running shows e1 n1 e2 n2 legal turns keeps line still apart node ends put there same less =
       moved_at cells r ended b0 b1 b2 old mid new at e n y x view running shows e1 n1 e2 n2 legal turns keeps
-      (λ m _ here. line) (λ m _. still (primary_of (printed r.log)) m) (λ m _. apart m) put node there
+      (λ m _ here. line) (λ m _. still (primary_of (printed r.log)) m) apart put node there
       (λ all order was. closed_place cells r.nodes r.log at e n key x y all order keeps line (still (primary_of (printed r.log)) n) same less ends was)
 
   -- ---- what is at hand

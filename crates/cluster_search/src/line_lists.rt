@@ -4,7 +4,7 @@ ghost use Rattle.std.specs.Prelude.{◌≡◌, [], false, OnOk, OnErr};
 ghost use Rattle.history_rules.specs.Nodes.{IsNode};
 ghost use Rattle.history_rules.specs.Lines.{entries_of_line};
 ghost use Rattle.history_book.specs.Log.{printed};
-ghost use Rattle.cluster_state.specs.Run.{IsEnded};
+ghost use Rattle.cluster_state.specs.Run.{KeepsRest, IsEnded};
 ghost use Rattle.cluster_state.specs.Calls.{ListsFiles};
 
 use crate::lists::list_files;
@@ -25,6 +25,7 @@ pub fn files<D: FaultDir + Drop>(
     requires fresh { entries_of_line at (printed state.old.log) ≡ [] }
     requires node { IsNode state.old.nodes n.0 }
     ensures ok { OnOk result (ListsFiles at n state.old state.new) }
+    ensures rest { OnOk result (KeepsRest state.old state.new) }
     ensures err { OnErr result (IsEnded state.old state.new) }
 {
     if !state.book().runs(n) {

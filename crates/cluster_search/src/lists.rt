@@ -4,7 +4,7 @@ ghost use Rattle.std.specs.Prelude.{◌≡◌, [], false, true, OnOk, OnErr};
 ghost use Rattle.history_rules.specs.Nodes.{IsNode, is_running};
 ghost use Rattle.history_rules.specs.Lines.{entries_of_line};
 ghost use Rattle.history_book.specs.Log.{printed};
-ghost use Rattle.cluster_state.specs.Run.{IsEnded};
+ghost use Rattle.cluster_state.specs.Run.{KeepsRest, IsEnded};
 ghost use Rattle.cluster_state.specs.Lists.{TellsFiles};
 
 use cluster_nodes::names_in;
@@ -27,6 +27,7 @@ pub fn list_files<D: FaultDir + Drop>(
     requires node { IsNode cluster.old.nodes n.0 }
     requires up { is_running n.0 (printed cluster.old.log) ≡ true }
     ensures ok { OnOk result (TellsFiles at n cluster.old cluster.new) }
+    ensures rest { OnOk result (KeepsRest cluster.old cluster.new) }
     ensures err { OnErr result (IsEnded cluster.old cluster.new) }
 {
     let book = cluster.ledger.book();

@@ -1,6 +1,6 @@
 //! Tickets and searches of nodes.
 
-ghost use Rattle.std.specs.Prelude.{◌≡◌, ◌≢◌, ◌∷◌, [], false, true, Some, ℕ, Option, OnOk, OnErr, IfOk};
+ghost use Rattle.std.specs.Prelude.{◌≡◌, ◌≢◌, ◌==◌, ◌∷◌, [], false, true, Some, ℕ, Option, OnOk, OnErr, IfOk};
 ghost use Rattle.nrt_base.specs.declared.numbers.NodeNo.{NodeNo};
 ghost use Rattle.history_rules.specs.Nodes.{IsNode, is_running, version_of};
 ghost use Rattle.history_rules.specs.Lines.{is_start, start_entry, entries_of_line, commit_in_flight};
@@ -10,7 +10,7 @@ ghost use Rattle.history_tables.specs.Openings.{opens_ticket, ticket_of};
 ghost use Rattle.history_book.specs.Log.{printed, shown};
 ghost use Rattle.history_book.specs.Told.{IsSo};
 ghost use Rattle.history_book.specs.Turns.{InTurn};
-ghost use Rattle.cluster_state.specs.Run.{IsNow, IsEnded};
+ghost use Rattle.cluster_state.specs.Run.{IsNow, KeepsRest, IsEnded};
 ghost use Rattle.cluster_state.specs.State.{ReadsAt};
 ghost use Rattle.cluster_state.specs.Moves.{moves, moves_tickets, EndsKey};
 ghost use Rattle.cluster_state.specs.FileChanges.{keeps_jobs, keeps_commits};
@@ -44,6 +44,7 @@ pub fn open_ticket<D: FaultDir + Drop>(
     requires free { has_ticket at.lane.0 t.0 (printed cluster.old.log) ≡ false }
     ensures ok { OnOk result (IsNow cluster.old cluster.new (shown at (Event.Opened n t
         (record { 0 = version_of n.0 (printed cluster.old.log) })) ∷ cluster.old.log)) }
+    ensures rest { OnOk result (KeepsRest cluster.old cluster.new) }
     ensures err { OnErr result (IsEnded cluster.old cluster.new) }
 {
     let book = cluster.ledger.book();
@@ -79,6 +80,7 @@ pub fn open_search<D: FaultDir + Drop>(
         (record { 0 = version_of n.0 (printed cluster.old.log) })) ∷ cluster.old.log)) }
     ensures lease { IfOk result (ReadsAt (printed cluster.old.log)
         (version_of n.0 (printed cluster.old.log))) }
+    ensures rest { OnOk result (KeepsRest cluster.old cluster.new) }
     ensures err { OnErr result (IsEnded cluster.old cluster.new) }
 {
     let book = cluster.ledger.book();
@@ -114,6 +116,7 @@ pub fn ask_ticket<D: FaultDir + Drop>(
     ensures ok { OnOk result (IsNow cluster.old cluster.new
         (shown at (Event.Asking opening.node t opening.version) ∷ cluster.old.log)) }
     ensures lease { IfOk result (ReadsAt (printed cluster.old.log) opening.version.0) }
+    ensures rest { OnOk result (KeepsRest cluster.old cluster.new) }
     ensures err { OnErr result (IsEnded cluster.old cluster.new) }
 {
     let book = cluster.ledger.book();
@@ -149,7 +152,7 @@ pub fn note_without<D: FaultDir + Drop>(
     requires told { IsSo cluster.old.log at event }
     requires line { start_entry at (printed cluster.old.log) ≢ Some Event.Publishing }
     requires still { (p : Option NodeNo) (m : ℕ) → moves event p m ≡ false }
-    requires apart { (m : ℕ) → moves_tickets event m ≡ false }
+    requires apart { (m : ℕ) → (n.0 == m) ≡ false → moves_tickets event m ≡ false }
     requires tickets { opens_ticket event ≡ false }
     requires drains { is_drained event ≡ false }
     requires starts { is_start event ≡ false }
@@ -160,6 +163,7 @@ pub fn note_without<D: FaultDir + Drop>(
     requires ends { EndsKey (printed cluster.old.log)
         (printed (shown at event ∷ cluster.old.log)) n.0 key }
     ensures ok { OnOk result (IsNow cluster.old cluster.new (shown at event ∷ cluster.old.log)) }
+    ensures rest { OnOk result (KeepsRest cluster.old cluster.new) }
     ensures err { OnErr result (IsEnded cluster.old cluster.new) }
 {
     cluster.ended = true;

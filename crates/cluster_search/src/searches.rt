@@ -8,7 +8,7 @@ ghost use Rattle.history_rules.specs.Points.{documents_at};
 ghost use Rattle.history_rules.specs.Started.{StartedSearch};
 ghost use Rattle.history_tables.specs.Begins.{open_line};
 ghost use Rattle.history_book.specs.Log.{printed, shown};
-ghost use Rattle.cluster_state.specs.Run.{IsNow, IsEnded};
+ghost use Rattle.cluster_state.specs.Run.{IsNow, KeepsRest, IsEnded};
 ghost use Rattle.cluster_state.specs.Calls.{SearchStarts, AskStarts, ScansAt, AnswerEnds};
 
 use crate::reads::{ask_ticket, note_without, open_search};
@@ -34,6 +34,7 @@ pub fn search_start<D: FaultDir + Drop>(
     requires fresh { entries_of_line at (printed state.old.log) ≡ [] }
     requires node { IsNode state.old.nodes n.0 }
     ensures ok { IfOk result (SearchStarts at n state.old state.new) }
+    ensures rest { OnOk result (KeepsRest state.old state.new) }
     ensures err { OnErr result (IsEnded state.old state.new) }
 {
     if !state.book().runs(n) {
@@ -53,6 +54,7 @@ pub fn ask_start<D: FaultDir + Drop>(
     requires running { state.old.ended ≡ false }
     requires fresh { entries_of_line at (printed state.old.log) ≡ [] }
     ensures ok { IfOk result (AskStarts at t state.old state.new) }
+    ensures rest { OnOk result (KeepsRest state.old state.new) }
     ensures err { OnErr result (IsEnded state.old state.new) }
 {
     let Some(opening) = state.book().ticket(at.lane, t) else {
@@ -75,6 +77,7 @@ pub fn answer_end<D: FaultDir + Drop>(
         (last_of_line at (printed state.old.log)) query.now answer }
     ensures ok { OnOk result (AnswerEnds at (last_of_line at (printed state.old.log))
         query.now answer state.old state.new) }
+    ensures rest { OnOk result (KeepsRest state.old state.new) }
     ensures err { OnErr result (IsEnded state.old state.new) }
 {
     state.book().is_legal();
@@ -113,6 +116,7 @@ fn end_search<D: FaultDir + Drop>(
         (if crashes n.0 (printed state.old.log)
         == crashes n.0 (before_start at (printed state.old.log))
         then Event.Answered n t v query.now answer else Event.Refused Cause.Lost) ∷ state.old.log)) }
+    ensures rest { OnOk result (KeepsRest state.old state.new) }
     ensures err { OnErr result (IsEnded state.old state.new) }
 {
     state.is_apart(at);

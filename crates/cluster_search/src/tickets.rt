@@ -5,7 +5,7 @@ ghost use Rattle.history_rules.specs.Nodes.{IsNode};
 ghost use Rattle.history_rules.specs.Lines.{entries_of_line};
 ghost use Rattle.history_rules.specs.Tickets.{open_ticket};
 ghost use Rattle.history_book.specs.Log.{printed, shown};
-ghost use Rattle.cluster_state.specs.Run.{IsNow, IsEnded};
+ghost use Rattle.cluster_state.specs.Run.{IsNow, KeepsRest, IsEnded};
 ghost use Rattle.cluster_state.specs.Calls.{open_event, close_by};
 
 use crate::reads::{note_without, open_ticket};
@@ -30,6 +30,7 @@ pub fn ticket_open<D: FaultDir + Drop>(
     requires number { t.0 ≢ 0 }
     ensures ok { OnOk result (IsNow state.old state.new (shown at
         (open_event at.lane.0 n t (printed state.old.log)) ∷ state.old.log)) }
+    ensures rest { OnOk result (KeepsRest state.old state.new) }
     ensures err { OnErr result (IsEnded state.old state.new) }
 {
     if state.book().ticket(at.lane, t).is_some() {
@@ -51,6 +52,7 @@ pub fn ticket_close<D: FaultDir + Drop>(
     requires fresh { entries_of_line at (printed state.old.log) ≡ [] }
     ensures ok { OnOk result (IsNow state.old state.new (shown at
         (close_by t (open_ticket at.lane.0 t.0 (printed state.old.log))) ∷ state.old.log)) }
+    ensures rest { OnOk result (KeepsRest state.old state.new) }
     ensures err { OnErr result (IsEnded state.old state.new) }
 {
     match state.book().ticket(at.lane, t) {

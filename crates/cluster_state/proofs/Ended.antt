@@ -1,5 +1,7 @@
 -- What the log shows of tickets and searches after one has ended.
-use Rattle.std.proofs.Common.{◌≡◌, ◌==◌, ℕ, Bool, true, false, ◌∷◌, None, Option, refl, if◌then◌else◌}
+use Rattle.std.proofs.Common.{◌≡◌, ◌==◌, ◌&&◌, ℕ, Bool, true, false, ◌∷◌, None, Option, refl, ap, ◌∙◌, if◌then◌else◌}
+use Rattle.std.specs.Prelude.{not}
+use Rattle.std.proofs.Math.Bool.{and-false}
 use Rattle.nrt_base.specs.declared.numbers.At.{At}
 use Rattle.nrt_base.specs.declared.numbers.NodeNo.{NodeNo}
 use Rattle.nrt_base.specs.declared.numbers.TicketNo.{TicketNo}
@@ -13,6 +15,7 @@ use Rattle.history_rules.specs.Tickets.{Ticket, is_ticket, last_opened, while_al
 use Rattle.history_tables.specs.Begins.{open_line}
 use Rattle.cluster_nodes.specs.declared.held.HeldKey.TheVariants.{Ticket as TicketKey, Search}
 use Rattle.cluster_nodes.specs.Held.{same_key}
+use Rattle.cluster_state.specs.TicketsOut.{is_ticket_out}
 use Rattle.cluster_state.specs.Lookups.{IsSearchAt, IsSearching}
 use Rattle.cluster_state.specs.State.{ticket_key}
 use Rattle.cluster_state.specs.Moves.{EndsKey}
@@ -52,11 +55,16 @@ pub search_tickets : (past : Past) (at : At) (n : NodeNo) (t : TicketNo) (v : Ve
     → IsTicketOf n.0 w (open_ticket lane u (record { at = at; event = Answered n t v query answer } ∷ past)) → (same_key (Search at) (ticket_key lane u) ≡ false) × IsTicketOf n.0 w (open_ticket lane u past)
 search_tickets past at n t v query answer lane u w is = (refl, tickets_less past at (Answered n t v query answer) n.0 lane u w refl is)
 
+-- what is not given back is still out
+kept_out : (here same was : Bool) → same ≡ false → was ≡ true → (not (here && same) && was) ≡ true
+kept_out here same was apart is = ap (λ (b : Bool). not (here && b) && was) apart ∙ (ap (λ (b : Bool). not b && was) (and-false here) ∙ is)
+
 -- a ticket of a lane was closed
 pub closed_key : (past : Past) (at : At) (n : NodeNo) (t : TicketNo) → EndsKey past (record { at = at; event = Closed n t } ∷ past) n.0 (TicketKey at.lane t)
 closed_key past at n t = record {
   tickets = λ lane u w is. ticket_closed past at n t lane u w is;
   searches = λ a w is. ticket_searches past at n t a w is;
+  out = λ other apart was. kept_out (n.0 == n.0) (same_key (TicketKey at.lane t) other) (is_ticket_out n.0 other past) apart was;
 }
 
 -- a search was answered
@@ -64,4 +72,5 @@ pub answered_key : (past : Past) (at : At) (n : NodeNo) (t : TicketNo) (v : Vers
 answered_key past at n t v query answer = record {
   tickets = λ lane u w is. search_tickets past at n t v query answer lane u w is;
   searches = λ a w is. search_answered past at n t v query answer a w is;
+  out = λ other apart was. kept_out ((n.0 == n.0) && (t.0 == 0)) (same_key (Search at) other) (is_ticket_out n.0 other past) apart was;
 }

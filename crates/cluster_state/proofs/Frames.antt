@@ -65,6 +65,7 @@ point_more past now v w p g same was = record { version = was.version ∙ sym sa
 pub holds_same : (past now : Past) (n : ℕ) (tickets : List (Open Shown)) (held : List HeldTicket) → Lasts past now → Fewer past now n → HoldsTickets past n tickets held → HoldsTickets now n tickets held
 holds_same past now n tickets held g f was = record {
   each = λ key number is. some_then (ticket_at number tickets) (was.each key number is) (λ o stands. g.stands o.point.version.0 o.point.readers stands);
+  out = λ key number is. f.out key ∙ was.out key number is;
   apart = was.apart;
   opened = λ lane t v is. was.opened lane t v (f.tickets lane t v is);
   searched = λ at v is. was.searched at v (f.searches at v is);

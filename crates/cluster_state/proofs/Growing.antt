@@ -1,6 +1,6 @@
 -- What one more entry leaves of points, of tickets and searches, and of the publish in flight.
 use Rattle.std.proofs.Common.{◌≡◌, ◌≢◌, ◌≤◌, ◌+◌, ◌&&◌, ◌==◌, ℕ, Bool, true, false, true≢false, List, [], ◌∷◌, Some, None, Option, refl, ap, ◌∙◌, sym, subst, arith, if◌then◌else◌, length}
-use Rattle.std.specs.Prelude.{not}
+use Rattle.std.specs.Prelude.{not, ◌||◌}
 use Rattle.std.proofs.lemmas.Bool.Decides.{nat_tests}
 use Rattle.std.proofs.Math.Bool.{and-false}
 use Rattle.nrt_base.specs.declared.numbers.At.{At}
@@ -10,7 +10,7 @@ use Rattle.seg_reader.specs.Stands.{AreSegmentsOf}
 use Rattle.nrt_base.specs.declared.doc.Doc.{Doc}
 use Rattle.history_rules.specs.declared.entry.Entry.{Entry}
 use Rattle.history_rules.specs.declared.entry.Event.{Event}
-use Rattle.history_rules.specs.declared.entry.Event.TheVariants.{Accepted, Publishing, Published, Switched, Opened, Crashed, Reopened, Promoted, Merging, Fault, Closed}
+use Rattle.history_rules.specs.declared.entry.Event.TheVariants.{Accepted, Publishing, Published, Switched, Opened, Answered, Crashed, Reopened, Promoted, Merging, Fault, Closed}
 use Rattle.history_rules.specs.Nodes.{Past, is_at, primary_of, is_running, crashes, generation_of, version_of}
 use Rattle.history_rules.specs.Lines.{same_at, is_start, is_reply, start_entry, before_start, without_at, publish_in_flight}
 use Rattle.history_rules.specs.Points.{operations_of_generation}
@@ -24,6 +24,10 @@ use Rattle.history_tables.proofs.RowLemmas.{by_test, same_at_is}
 use Rattle.history_book.specs.Turns.{AreInTurn}
 use Rattle.history_book.proofs.LineLaws.{flying}
 use Rattle.cluster_state.specs.Lookups.{IsSearchAt, IsSearching}
+use Rattle.cluster_nodes.specs.declared.held.HeldKey.{HeldKey}
+use Rattle.cluster_nodes.specs.declared.held.HeldKey.TheVariants.{Ticket as TicketKey, Search}
+use Rattle.cluster_nodes.specs.Held.{same_key}
+use Rattle.cluster_state.specs.TicketsOut.{key_by, is_ticket_out}
 use Rattle.cluster_state.specs.State.{StandForVersion}
 use Rattle.cluster_state.specs.Moves.{moves, moves_tickets, keeps_flight, FlightStays, Lasts, Fewer, WritesOn, Same}
 
@@ -43,6 +47,18 @@ generation_more size past at (Promoted m g f w) keeps = omega (arith, keeps.next
 generation_more size past at e keeps = omega arith
 
 -- ---- tickets
+
+-- the entry opens a ticket or a search at the node, or the node crashes
+abbrev pub more_tickets : Event → ℕ → Bool
+more_tickets (Opened m t v) n = m.0 == n
+more_tickets (Crashed m) n = m.0 == n
+more_tickets e n = false
+
+-- so does none that moves no ticket
+not_more : (e : Event) (n : ℕ) → moves_tickets e n ≡ false → more_tickets e n ≡ false
+not_more (Opened m t v) n apart = apart
+not_more (Crashed m) n apart = apart
+not_more e n apart = refl
 
 -- a node that has not crashed since has the tickets that it had
 pub alive_less : (past now : Past) (x : Option Ticket) (n v : ℕ) → crashes n now ≡ crashes n past → IsTicketOf n v (while_alive now x) → IsTicketOf n v (while_alive past x)
@@ -77,7 +93,7 @@ closed_less false past n v old is = is
 crashes_other : (m n k : ℕ) → (m == n) ≡ false → (if m == n then k + 1 else k) ≡ k
 crashes_other m n k apart = ap (λ (b : Bool). if b then k + 1 else k) apart
 
-pub tickets_less : (past : Past) (at : At) (e : Event) (n lane t v : ℕ) → moves_tickets e n ≡ false
+pub tickets_less : (past : Past) (at : At) (e : Event) (n lane t v : ℕ) → more_tickets e n ≡ false
     → IsTicketOf n v (open_ticket lane t (record { at = at; event = e } ∷ past)) → IsTicketOf n v (open_ticket lane t past)
 tickets_less past at (Opened m u w) n lane t v apart is =
     by_number (t == 0) (while_alive (record { at = at; event = Opened m u w } ∷ past) (last_opened lane t (record { at = at; event = Opened m u w } ∷ past))) (while_alive past (last_opened lane t past)) n v
@@ -104,7 +120,7 @@ record Searched (n v : ℕ) (e : Event) (s : Bool) (old : Option BegunLine) : Ty
   pub before : IsSearchAt n v old
   pub start : (is_start e && s) ≡ false
 
-line_less : (past : Past) (e : Event) (n v before accepted : ℕ) (s : Bool) (old : Option BegunLine) → moves_tickets e n ≡ false
+line_less : (past : Past) (e : Event) (n v before accepted : ℕ) (s : Bool) (old : Option BegunLine) → more_tickets e n ≡ false
     → IsSearchAt n v (if s then begun_by e before accepted old else old) → Searched n v e s old
 line_less past e n v before accepted false old apart is = record { before = is; start = and-false (is_start e) }
 line_less past (Switched m w) n v before accepted true old apart is = record { before = is; start = refl }
@@ -116,11 +132,11 @@ line_less past (Opened m t w) n v before accepted true old apart is = opened (t.
     opened false zero got = absurd got
 line_less past e n v before accepted true old apart is = absurd is
 
-crashes_same : (past : Past) (at : At) (e : Event) (n : ℕ) → moves_tickets e n ≡ false → crashes n (record { at = at; event = e } ∷ past) ≡ crashes n past
+crashes_same : (past : Past) (at : At) (e : Event) (n : ℕ) → more_tickets e n ≡ false → crashes n (record { at = at; event = e } ∷ past) ≡ crashes n past
 crashes_same past at (Crashed m) n apart = crashes_other m.0 n (crashes n past) apart
 crashes_same past at e n apart = refl
 
-pub searches_less : (past : Past) (at : At) (e : Event) (n : ℕ) (a : At) (v : ℕ) → moves_tickets e n ≡ false
+pub searches_less : (past : Past) (at : At) (e : Event) (n : ℕ) (a : At) (v : ℕ) → more_tickets e n ≡ false
     → IsSearching (record { at = at; event = e } ∷ past) a n v → IsSearching past a n v
 searches_less past at e n a v apart is =
     let line = line_less past e n v (length past) (length (operations_of_generation past)) (same_at at a) (open_line a past) apart is.line in
@@ -130,10 +146,19 @@ searches_less past at e n a v apart is =
       survives = record { node = sym (crashes_same past at e n apart) ∙ (is.survives.node ∙ ap (crashes n) start) };
     }
 
+-- an entry that moves no ticket of the node leaves those that are out
+out_same : (past : Past) (at : At) (e : Event) (n : ℕ) (key : HeldKey) → moves_tickets e n ≡ false → is_ticket_out n key (record { at = at; event = e } ∷ past) ≡ is_ticket_out n key past
+out_same past at (Opened m t v) n key apart = ap (λ (b : Bool). (b && same_key (key_by at t) key) || is_ticket_out n key past) apart
+out_same past at (Answered m t v query answer) n key apart = ap (λ (b : Bool). not (b && same_key (Search at) key) && is_ticket_out n key past) apart
+out_same past at (Closed m t) n key apart = ap (λ (b : Bool). not (b && same_key (TicketKey at.lane t) key) && is_ticket_out n key past) apart
+out_same past at (Crashed m) n key apart = ap (λ (b : Bool). not b && is_ticket_out n key past) apart
+out_same past at e n key apart = refl
+
 pub fewer : (past : Past) (at : At) (e : Event) (n : ℕ) → moves_tickets e n ≡ false → Fewer past (record { at = at; event = e } ∷ past) n
 fewer past at e n apart = record {
-  tickets = λ lane t v is. tickets_less past at e n lane t v apart is;
-  searches = λ a v is. searches_less past at e n a v apart is;
+  tickets = λ lane t v is. tickets_less past at e n lane t v (not_more e n apart) is;
+  searches = λ a v is. searches_less past at e n a v (not_more e n apart) is;
+  out = λ key. out_same past at e n key apart;
 }
 
 pub lasts : (size : ℕ) (past : Past) (at : At) (e : Event) → IsLegalPast size past → KeepsRule size past at e → Lasts past (record { at = at; event = e } ∷ past)

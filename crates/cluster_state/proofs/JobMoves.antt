@@ -31,7 +31,7 @@ same_none past n = record {
 }
 
 fewer_none : (past : Past) (n : ℕ) → Fewer past past n
-fewer_none past n = record { tickets = λ lane t v is. is; searches = λ at v is. is }
+fewer_none past n = record { tickets = λ lane t v is. is; searches = λ at v is. is; out = λ key. refl }
 
 -- the entry is of a job
 abbrev pub IsOfJob : Inner → Type 0

@@ -1,7 +1,7 @@
 pub mod BookLaws
 pub mod Disks
 pub mod Drawn
-mod Ended
+pub mod Ended
 pub mod Faulted
 pub mod FileFrames
 pub mod FileJobs
@@ -24,6 +24,8 @@ pub mod PointStands
 pub mod Points
 pub mod Reigning
 mod ReplicaLists
+pub mod RestKept
 pub mod Rows
+pub mod SizesTold
 pub mod Turning
 pub mod Wider

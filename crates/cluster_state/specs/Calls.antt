@@ -27,7 +27,7 @@ use Rattle.cluster_state.specs.declared.turn.Turn.{Turn}
 use Rattle.cluster_state.specs.declared.turn.Turn.TheVariants.{Work, Done, Busy}
 use Rattle.cluster_state.specs.Run.{Run, IsNow}
 use Rattle.cluster_state.specs.State.{ReadsAt}
-use Rattle.cluster_state.specs.Writes.{HandsFlush}
+use Rattle.cluster_state.specs.Writes.{IsFull, HandsFlush}
 
 -- the refusal that holds, or what the line does
 abbrev pub by_refusal : Option Cause → Event → Event
@@ -57,10 +57,11 @@ cut_refusal cut past = option_or (when ((length (cut_of past) == 0) && not cut) 
 abbrev pub publish_refusal : Bool → Past → Option Cause
 publish_refusal cut past = option_or (without_primary past) (cut_refusal cut past)
 
--- a publish was refused: for the cause that holds, or where none holds and the cut has a put, for too many segments, as many as there may be
+-- a publish was refused: for the cause that holds, or where none holds and the cut has a put, for too many segments: the primary has as many as
+-- there may be
 abbrev pub PublishRefused : At → Option Cause → Run → Run → Type 0
 PublishRefused at (Some cause) old new = LineRefused at cause old new
-PublishRefused at None old new = LineRefused at TooManySegments old new × (cut_has_put (printed old.log) ≡ true) × (may_be_full (printed old.log) ≡ true)
+PublishRefused at None old new = LineRefused at TooManySegments old new × (cut_has_put (printed old.log) ≡ true) × (may_be_full (printed old.log) ≡ true) × IsFull old
 
 -- a publish starts: it is handed out, refused, or waits while another line's is in flight
 abbrev pub PublishStarts : At → Run → Run → Turn FlushTask → Type 0

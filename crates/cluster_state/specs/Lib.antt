@@ -24,4 +24,5 @@ pub mod Settles
 pub mod Sizes
 pub mod Starting
 pub mod State
+pub mod TicketsOut
 pub mod Writes

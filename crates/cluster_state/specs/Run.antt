@@ -76,6 +76,10 @@ pub record IsNow (old new : Run) (now : List Mark) : Type 0 where
   pub nodes : new.nodes ≡ old.nodes
   pub log : new.log ≡ now
 
+-- what callers are told beside the log is as before, but for the faults that disks have met
+abbrev pub KeepsRest : Run → Run → Type 0
+KeepsRest old new = new.rest ≡ record old.rest { plans = new.rest.plans }
+
 -- the call found no memory: the cluster has ended, and the log is as before
 pub record IsEnded (old new : Run) : Type 0 where
   pub ended : new.ended ≡ true

@@ -30,6 +30,7 @@ use Rattle.cluster_nodes.specs.declared.nodes.Node.TheVariants.{Primary, Replica
 use Rattle.cluster_nodes.specs.declared.nodes.NodePlace.{NodePlace}
 use Rattle.cluster_nodes.specs.Held.{same_key, held_number}
 use Rattle.cluster_state.specs.Lookups.{flush_out, IsSearching}
+use Rattle.cluster_state.specs.TicketsOut.{is_ticket_out}
 use Rattle.cluster_nodes.specs.Places.{place_of, tickets_of}
 
 -- the segments are of the documents of the point of this version
@@ -61,10 +62,11 @@ HoldsAt tickets held key v =
 abbrev pub ticket_key : ℕ → ℕ → HeldKey
 ticket_key lane t = Ticket (record { 0 = lane }) (record { 0 = t })
 
--- Each ticket that is held is open at the node, and no two are one; those that lanes have at the node are held, and so is one
--- for each search of it.
+-- Each ticket that is held is open at the node, the history shows that it is out, and no two are one; those that lanes have at the node are
+-- held, and so is one for each search of it.
 pub record HoldsTickets (past : Past) (n : ℕ) (tickets : List (Open Shown)) (held : List HeldTicket) : Type 0 where
   pub each : (key : HeldKey) (number : ℕ) → held_number held key ≡ Some number → IsOpenOn past tickets number
+  pub out : (key : HeldKey) (number : ℕ) → held_number held key ≡ Some number → is_ticket_out n key past ≡ true
   pub apart : (a b : HeldKey) (number : ℕ) → held_number held a ≡ Some number → held_number held b ≡ Some number → same_key a b ≡ true
   pub opened : (lane t v : ℕ) → IsTicketOf n v (open_ticket lane t past) → HoldsAt tickets held (ticket_key lane t) v
   pub searched : (at : At) (v : ℕ) → IsSearching past at n v → HoldsAt tickets held (Search at) v

@@ -66,7 +66,7 @@ impl<D: FaultDir + Drop> ClusterState<D> {
     ghost use Rattle.history_book.specs.Log.{printed, shown};
     ghost use Rattle.history_book.specs.Turns.{InTurn};
     ghost use Rattle.history_book.specs.Told.{IsSo, cut_since};
-    ghost use Rattle.cluster_state.specs.Run.{IsNow, IsEnded};
+    ghost use Rattle.cluster_state.specs.Run.{IsNow, KeepsRest, IsEnded};
     ghost use Rattle.cluster_state.specs.Moves.{moves, moves_tickets};
     ghost use Rattle.cluster_state.specs.FileChanges.{keeps_jobs, is_commit_line, keeps_commits};
     ghost use Rattle.merge_tasks.specs.TaskLog.{is_drained};
@@ -158,6 +158,7 @@ impl<D: FaultDir + Drop> ClusterState<D> {
         ensures ok { OnOk result (IsNow self.old self.new (shown at event ∷ self.old.log)) }
         ensures tasks { OnOk result (self.new.rest.tasks ≡ self.old.rest.tasks) }
         ensures jobs { OnOk result (self.new.rest.jobs ≡ self.old.rest.jobs) }
+        ensures rest { OnOk result (KeepsRest self.old self.new) }
         ensures err { OnErr result (IsEnded self.old self.new) }
     {
         self.ended = true;

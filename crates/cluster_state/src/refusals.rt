@@ -4,7 +4,7 @@ ghost use Rattle.std.specs.Prelude.{◌≡◌, ◌∷◌, [], false, OnOk, OnErr
 ghost use Rattle.history_rules.specs.Lines.{entries_of_line};
 ghost use Rattle.history_rules.specs.Commits.{is_disk_fault};
 ghost use Rattle.history_book.specs.Log.{printed};
-ghost use Rattle.cluster_state.specs.Run.{IsEnded};
+ghost use Rattle.cluster_state.specs.Run.{KeepsRest, IsEnded};
 ghost use Rattle.cluster_state.specs.Calls.{LineRefused, IsRefusedTurn};
 
 use crate::cluster::ClusterState;
@@ -25,6 +25,7 @@ pub fn refuse<D: FaultDir + Drop>(
     ensures ok { OnOk result (LineRefused at cause state.old state.new) }
     ensures tasks { OnOk result (state.new.rest.tasks ≡ state.old.rest.tasks) }
     ensures jobs { OnOk result (state.new.rest.jobs ≡ state.old.rest.jobs) }
+    ensures rest { OnOk result (KeepsRest state.old state.new) }
     ensures err { OnErr result (IsEnded state.old state.new) }
 {
     state.is_apart(at);
@@ -42,6 +43,7 @@ pub fn refuse_turn<D: FaultDir + Drop, W>(
     requires fresh { entries_of_line at (printed state.old.log) ≡ [] }
     requires cause { is_disk_fault cause ≡ false }
     ensures ok { IfOk result (IsRefusedTurn at cause state.old state.new) }
+    ensures rest { OnOk result (KeepsRest state.old state.new) }
     ensures err { OnErr result (IsEnded state.old state.new) }
 {
     refuse(state, at, cause)?;

@@ -1,3 +1,4 @@
+mod Carried
 mod Claims
 mod Drains
 mod Hearing

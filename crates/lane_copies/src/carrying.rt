@@ -7,7 +7,7 @@ ghost use Rattle.copy_job.specs.Copying.{IsPartOf};
 
 use bytes::Bytes;
 use cluster_nodes::FileTask;
-use copy_job::{Part, copy_file};
+use copy_job::{JobFault, Part, copy_file};
 use file_names::FileName;
 use lane_sections::{Gate, Place};
 use link_model::{Link, LinkFault, MemLink};
@@ -57,7 +57,20 @@ impl<'g, G: Gate, L: Link> Link for GateLink<'g, G, L> {
     }
 }
 
-/// Carries a file whole to a node.
+// Want of memory, where nothing else kept a file back.
+fn want_of_memory(fault: JobFault) -> NoMemory
+    requires { fault ≡ JobFault.Memory }
+{
+    match fault {
+        JobFault::Memory => AllocError,
+        JobFault::LinkFailed => unreachable!(),
+        JobFault::Damaged { .. } => unreachable!(),
+        JobFault::DirFailed => unreachable!(),
+        JobFault::NameClash { .. } => unreachable!(),
+    }
+}
+
+/// Carries a file whole to a node. It fails when out of memory.
 pub fn carry<G: Gate>(
     alloc: Global,
     gate: &G,
@@ -79,6 +92,6 @@ pub fn carry<G: Gate>(
     };
     match copy_file(alloc, &mut link, &file.source, &file.name, &file.meta) {
         Ok(part) => Ok(part),
-        Err(_) => Err(AllocError),
+        Err(fault) => Err(want_of_memory(fault)),
     }
 }

@@ -1,4 +1,4 @@
--- A script of which the program runs every statement is built: it has no log, and its lines are such as are run.
+-- A script of which the program runs every statement is built: its lines are such as are run.
 use Rattle.std.proofs.Common.{◌≡◌, ◌==◌, ◌&&◌, ◌++◌, ℕ, zero, suc, ◌+◌, Bool, true, false, List, [], ◌∷◌, map, Some, None, refl, ap, ◌∙◌, sym, inl, inr, if◌then◌else◌}
 use Rattle.std.specs.List.{list_all, flat_map}
 use Rattle.std.proofs.lemmas.Bool.{false≢true, cases_Bool, and_from, and_parts}
@@ -83,20 +83,14 @@ lines_run (phase ∷ phases) all =
 
 -- ---- the headers
 
--- no log is asked for, and the lines are run
-record IsBuiltBody (log : Bool) (phases : List (List Line)) : Type 0 where
-  none : log ≡ false
-  run : phases_run phases ≡ true
-
 built_logged : (size : ℕ) (log : Bool) (statements : List Statement) (phases : List (List Line)) → SpellsLogged size log statements phases → first_unbuilt statements ≡ None
-    → IsBuiltBody log phases
-built_logged size log [] phases spells built = record { none = spells.0; run = ap phases_run spells.1 }
-built_logged size log (statement ∷ statements) phases (inl spells) built =
-    absurd (false≢true (ap is_built (sym spells.1) ∙ (built_parts statement statements built).first))
-built_logged size log (statement ∷ statements) phases (inr spells) built = record { none = spells.0; run = built_phases size (statement ∷ statements) phases spells.1 built }
+    → phases_run phases ≡ true
+built_logged size log [] phases spells built = ap phases_run spells.1
+built_logged size log (statement ∷ statements) phases (inl spells) built = built_phases size statements phases spells.2 (built_parts statement statements built).others
+built_logged size log (statement ∷ statements) phases (inr spells) built = built_phases size (statement ∷ statements) phases spells.1 built
 
 built_body : (size workers : ℕ) (log : Bool) (statements : List Statement) (phases : List (List Line)) → SpellsBody size workers log statements phases → first_unbuilt statements ≡ None
-    → IsBuiltBody log phases
+    → phases_run phases ≡ true
 built_body size workers log [] phases spells built = built_logged size log [] phases spells.1 built
 built_body size workers log (statement ∷ statements) phases (inl spells) built =
     built_logged size log statements phases spells.1 (built_parts statement statements built).others
@@ -105,11 +99,8 @@ built_body size workers log (statement ∷ statements) phases (inr spells) built
 built_statements : (statements : List Statement) (script : Script) → SpellsStatements statements script → first_unbuilt statements ≡ None → IsPlainScript script
 built_statements [] script spells built = absurd spells
 built_statements (statement ∷ statements) script spells built =
-    let body = built_body script.nodes script.workers script.log statements spells.1.0 spells.1.1 (built_parts statement statements built).others in
-    record {
-      log = body.none;
-      commands = ap (λ (phases : List Phase). all_run (flat_map lines_of_phase phases)) spells.1.2 ∙ lines_run spells.1.0 body.run;
-    }
+    let run = built_body script.nodes script.workers script.log statements spells.1.0 spells.1.1 (built_parts statement statements built).others in
+    ap (λ (phases : List Phase). all_run (flat_map lines_of_phase phases)) spells.1.2 ∙ lines_run spells.1.0 run
 
 -- the script is built
 pub is_built_script : (bytes : List ℕ) (script : Script) → IsRunnable bytes script → IsPlainScript script

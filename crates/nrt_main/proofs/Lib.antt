@@ -6,3 +6,4 @@ mod Loads
 mod AnswerLaws
 mod FrameAnswers
 mod CheckAnswers
+mod Complete

@@ -110,7 +110,7 @@ lines_run n =
 
 -- so the program runs the script
 pub plain_of : (n : ℕ) (script : Script) → script ≡ generated_script n → IsPlainScript script
-plain_of n script is = subst IsPlainScript (sym is) (record { log = refl; commands = all_of_phases (λ line. is_run line.command) (phases_for n) both })
+plain_of n script is = subst IsPlainScript (sym is) (all_of_phases (λ line. is_run line.command) (phases_for n) both)
   where
     both : list_all (λ line. is_run line.command) (load_lines n ++ (last_of n ++ [])) ≡ true
     both =

@@ -2,6 +2,7 @@ pub mod Built
 pub mod Headline
 pub mod Frames
 pub mod Check
+pub mod Complete
 pub mod Load
 pub mod Judge
 pub mod Rows

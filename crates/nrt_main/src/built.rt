@@ -7,12 +7,12 @@ ghost use Rattle.nrt_main.specs.Built.{IsFirstUnbuilt, RunsWhole, is_built as is
 use nrt_base::LineNo;
 use script_text::{LONGEST, first_words, is_word, next_statement};
 
-/// Whether the program runs this statement of a script so far: it is no line of `fault`, and no header `log`.
+/// Whether the program runs this statement of a script so far: it is no line of `fault`.
 fn is_built(line: &[u8]) -> bool
     ensures { result ≡ is_built_lem (words_in line.now) }
 {
     let words = first_words(line);
-    !(is_word(b"fault", words.second) || is_word(b"log", words.first))
+    !is_word(b"fault", words.second)
 }
 
 /// The line of the first statement that the program does not run yet.

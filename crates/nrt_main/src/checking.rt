@@ -1,9 +1,10 @@
 //! The command that checks an image of a directory.
 
-ghost use Rattle.std.specs.Prelude.{◌≡◌, ◌≢◌, ◌<◌, ◌^◌, ◌-◌, ℕ};
+ghost use Rattle.std.specs.Prelude.{◌≡◌, ◌≢◌, ◌<◌, ◌^◌, ◌-◌, ℕ, List};
 ghost use Rattle.nrt_base.specs.Causes.{Rose};
-ghost use Rattle.index_check.specs.Images.{IsNoImage};
+ghost use Rattle.index_check.specs.Images.{NamedFile, IsImageOf, IsNoImage};
 ghost use Rattle.nrt_main.specs.Headline.{TakesWithin, TakesMore};
+ghost use Rattle.nrt_main.specs.Complete.{NoneFailed, OffersImage, IsCheckedOrMemory};
 ghost use Rattle.nrt_main.specs.Check.{TellsRight, TellsWrong, TellsInPart, IsCheckAnswer, RanCheck, FoundWrong, RanCheckInPart, GaveNoImage, AnswersCheck};
 
 use crate::reading::{ReadEnd, read_all};
@@ -16,8 +17,9 @@ use script_text::LineFault;
 use std::alloc::Global;
 
 /// Checks the directory of which the bytes are the image, and writes the line of its check.
-#[tactic(auto, using(crate::proofs::CheckAnswers::bad_image, crate::proofs::CheckAnswers::checked_answer, crate::proofs::CheckAnswers::told_right, crate::proofs::CheckAnswers::told_wrong, crate::proofs::CheckAnswers::told_in_part))]
+#[tactic(auto, using(crate::proofs::CheckAnswers::bad_image, crate::proofs::CheckAnswers::checked_answer, crate::proofs::CheckAnswers::told_right, crate::proofs::CheckAnswers::told_wrong, crate::proofs::CheckAnswers::told_in_part, crate::proofs::Complete::checked_right, crate::proofs::Complete::checked_wrong, crate::proofs::Complete::unchecked, crate::proofs::Complete::check_not_unwritten, crate::proofs::Complete::is_an_image))]
 fn check_bytes<K: Sink>(alloc: Global, bytes: &[u8], sink: &mut K) -> Status
+    requires writes { K.fault_count sink.old < 2 ^ 64 - 1 }
     ensures done { result ≡ Status.Done → TellsRight bytes.now (K.held sink.old) (K.held sink.new) }
     ensures wrong { result ≡ Status.BadIndex → TellsWrong bytes.now (K.held sink.old)
         (K.held sink.new) }
@@ -32,6 +34,8 @@ fn check_bytes<K: Sink>(alloc: Global, bytes: &[u8], sink: &mut K) -> Status
     ensures others { (result ≢ Status.Usage) × (result ≢ Status.ReadFault) ×
         (result ≢ Status.TooLarge) × ((n : LineNo) (cause : LineFault)
         → result ≢ Status.BadScript n cause) × ((k : ℕ) → result ≢ Status.BadStream k) }
+    ensures complete { (files : List NamedFile) → IsImageOf bytes.now files
+        → K.fault_count sink.new ≡ K.fault_count sink.old → IsCheckedOrMemory result }
 {
     let checked = match check_image(alloc, bytes) {
         Ok(checked) => checked,
@@ -48,6 +52,7 @@ fn check_bytes<K: Sink>(alloc: Global, bytes: &[u8], sink: &mut K) -> Status
 }
 
 /// Reads an image of a directory from the source, checks the directory, and writes the line of its check to the sink.
+#[tactic(auto, using(crate::proofs::Complete::unchecked, crate::proofs::Complete::check_not_unread, crate::proofs::Complete::image_not_more, crate::proofs::Complete::image_checked))]
 pub fn check_source<S: Source, K: Sink>(alloc: Global, source: &mut S, sink: &mut K) -> Status
     requires reads { S.fault_count source.old < 2 ^ 64 - 1 }
     requires writes { K.fault_count sink.old < 2 ^ 64 - 1 }
@@ -69,6 +74,9 @@ pub fn check_source<S: Source, K: Sink>(alloc: Global, source: &mut S, sink: &mu
         → sink.new ≡ sink.old }
     ensures others { (result ≢ Status.Usage) × ((n : LineNo) (cause : LineFault)
         → result ≢ Status.BadScript n cause) × ((k : ℕ) → result ≢ Status.BadStream k) }
+    ensures complete { OffersImage (S.left source.old)
+        → NoneFailed (S.fault_count source.old) (S.fault_count source.new)
+        (K.fault_count sink.old) (K.fault_count sink.new) → IsCheckedOrMemory result }
 {
     match read_all(alloc, source) {
         Ok(bytes) => check_bytes(alloc, bytes.as_slice(), sink),

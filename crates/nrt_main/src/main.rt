@@ -30,18 +30,29 @@ use cluster_run::Cluster;
 use disk_memory::MemDir;
 use index_check::check_image;
 use line_advice::advice;
-use nrt_base::LineNo;
+use nrt_base::{LineNo, NoMemory};
 use nrt_streams::Arg;
 use report_judge::{cut_source, explain as why, judge};
 use script_text::{LineFault, parse_script};
+use std::alloc::Global;
 use std::process::ExitCode;
 use std::{env, io};
+use usage_text::{asked, mistake};
+
+/// The words of the command line, the program's name first.
+fn texts(rt: &HostRuntime) -> io::Result<Vec<String>> {
+    let mut texts = Vec::new(rt.alloc());
+    for text in env::args(rt)? {
+        texts.push(text)?;
+    }
+    Ok(texts)
+}
 
 /// The words after the program's name.
-fn words(rt: &HostRuntime) -> io::Result<Vec<Arg>> {
-    let mut words = Vec::new(rt.alloc());
-    for word in env::args(rt)?.skip(1) {
-        words.push(Arg::new(rt.alloc(), word.as_bytes())?)?;
+fn words(alloc: Global, texts: &[String]) -> Result<Vec<Arg>, NoMemory> {
+    let mut words = Vec::new(alloc);
+    for text in texts.iter().skip(1) {
+        words.push(Arg::new(alloc, text.as_bytes())?)?;
     }
     Ok(words)
 }
@@ -96,34 +107,81 @@ fn explain_report(rt: &HostRuntime, source: &[u8]) -> io::Result<()> {
     }
 }
 
+/// Says what is wrong with words that are no command.
+fn explain_words(rt: &HostRuntime, texts: &[String]) -> io::Result<()> {
+    eprint!(rt; "{}", mistake(rt.alloc(), texts)?)
+}
+
+/// What a run leaves for messages: the words, what was read, and whether the other end of standard output was closed.
+#[derive(Clone, Copy)]
+struct Seen<'a> {
+    texts: &'a [String],
+    input: &'a [u8],
+    is_broken: bool,
+}
+
 /// Says on standard error why not all was done. Who reads the output may leave without a word.
-fn explain(rt: &HostRuntime, status: Status, input: &[u8], is_broken: bool) -> io::Result<()> {
+fn explain(rt: &HostRuntime, status: Status, seen: &Seen<'_>) -> io::Result<()> {
     match status {
         Status::Done => Ok(()),
-        Status::WriteFault if is_broken => Ok(()),
-        Status::Usage => {
-            eprintln!(rt; "usage: nrt run < SCRIPT")?;
-            eprintln!(rt; "       nrt frames < STREAM")?;
-            eprintln!(rt; "       nrt check < IMAGE")?;
-            eprintln!(rt; "       nrt load N, N from 1 to 10000")?;
-            eprintln!(rt; "       nrt judge < SCRIPT_AND_REPORT")
-        }
-        Status::BadScript(line, cause) => explain_line(rt, input, line, cause),
+        Status::WriteFault if seen.is_broken => Ok(()),
+        Status::Usage => explain_words(rt, seen.texts),
+        Status::BadScript(line, cause) => explain_line(rt, seen.input, line, cause),
         Status::BadStream(_) => {
             eprintln!(rt; "{}", status)?;
-            eprintln!(rt; "nrt: {}", stream_fault(rt.alloc(), input))
+            eprintln!(rt; "nrt: {}", stream_fault(rt.alloc(), seen.input))
         }
-        Status::BadIndex => explain_image(rt, input),
-        Status::BadReport => explain_report(rt, input),
+        Status::BadIndex => explain_image(rt, seen.input),
+        Status::BadReport => explain_report(rt, seen.input),
         _ => eprintln!(rt; "nrt: {}", status),
     }
 }
 
+/// A help or a version that was not written. Who reads the output may leave without a word.
+fn unwritten(rt: &HostRuntime, error: &io::Error) -> Status {
+    if error.kind() != io::ErrorKind::BrokenPipe {
+        let _ = eprintln!(rt; "nrt: {}", Status::WriteFault);
+    }
+    Status::WriteFault
+}
+
+/// Writes the help or the version, where the only word asks for it.
+fn tell(rt: &HostRuntime, texts: &[String]) -> Option<Status> {
+    let [_, word] = texts else {
+        return None;
+    };
+    match asked(rt.alloc(), word.as_str()) {
+        Ok(None) => None,
+        Ok(Some(text)) => match print!(rt; "{}", text) {
+            Ok(()) => Some(Status::Done),
+            Err(error) => Some(unwritten(rt, &error)),
+        },
+        Err(_) => Some(Status::Memory),
+    }
+}
+
+/// Why there are no words: one of them is no text, or memory ran out.
+fn without_words(rt: &HostRuntime, error: &io::Error) -> Status {
+    let status = match error.kind() {
+        io::ErrorKind::InvalidData => Status::Usage,
+        _ => Status::Memory,
+    };
+    let _ = eprintln!(rt; "nrt: {}", status);
+    status
+}
+
 fn main(rt: HostRuntime) -> ExitCode {
+    let texts = match texts(&rt) {
+        Ok(texts) => texts,
+        Err(error) => return ExitCode::from(without_words(&rt, &error).number()),
+    };
+    if let Some(status) = tell(&rt, texts.as_slice()) {
+        return ExitCode::from(status.number());
+    }
     let mut source = StdSource::new(rt.alloc(), rt.stdin());
     let mut sink = StdSink::new(rt.stdout());
     let mut kept: Option<Cluster<MemDir>> = None;
-    let status = match words(&rt) {
+    let status = match words(rt.alloc(), texts.as_slice()) {
         Ok(words) => run_nrt(
             &rt,
             rt.alloc(),
@@ -133,11 +191,13 @@ fn main(rt: HostRuntime) -> ExitCode {
             &OpenGate,
             &mut kept,
         ),
-        Err(error) => match error.kind() {
-            io::ErrorKind::InvalidData => Status::Usage,
-            _ => Status::Memory,
-        },
+        Err(_) => Status::Memory,
     };
-    let _ = explain(&rt, status, source.seen(), sink.is_broken());
+    let seen = Seen {
+        texts: texts.as_slice(),
+        input: source.seen(),
+        is_broken: sink.is_broken(),
+    };
+    let _ = explain(&rt, status, &seen);
     ExitCode::from(status.number())
 }

@@ -91,6 +91,45 @@ fn statuses(rt: HostRuntime) -> Result<(), Fail> {
     Ok(())
 }
 
+/// A run of the plain script, 16 bytes a call: its status, and how many reads and writes it took.
+fn counted<R: Threads + Wait + Sync>(
+    rt: &R,
+    alloc: Global,
+    reads: &[u64],
+    writes: &[u64],
+) -> Result<(Status, u64, u64), Fail> {
+    let words = words(alloc, &[b"run"])?;
+    let mut source = MemSource::new(PLAIN.to_vec(alloc)?, 16, reads.to_vec(alloc)?);
+    let mut sink = MemSink::new(alloc, 4096, 16, writes.to_vec(alloc)?)?;
+    let mut kept = None;
+    let status = run_nrt(
+        rt,
+        alloc,
+        words.as_slice(),
+        &mut source,
+        &mut sink,
+        &OpenGate,
+        &mut kept,
+    );
+    Ok((status, source.calls(), sink.calls()))
+}
+
+// The first, the second and the last read fail, and so do the writes.
+#[test]
+fn failing_calls(rt: HostRuntime) -> Result<(), Fail> {
+    let alloc = rt.alloc();
+    assert_eq!(rt; counted(&rt, alloc, &[], &[])?, (Status::Done, 5, 8));
+    for call in [1, 2, 5] {
+        let ends = counted(&rt, alloc, &[call], &[])?;
+        assert_eq!(rt; ends, (Status::ReadFault, call, 0));
+    }
+    for call in [1, 2, 8] {
+        let ends = counted(&rt, alloc, &[], &[call])?;
+        assert_eq!(rt; ends, (Status::WriteFault, 5, call));
+    }
+    Ok(())
+}
+
 const NOTICE: &[u8] = b"\0\0\0\x11\x01\0\0\0\0\0\0\0\x01\0\0\0\0\0\0\0\x02";
 
 const NOTICE_AND_MORE: &[u8] = b"\0\0\0\x11\x01\0\0\0\0\0\0\0\x01\0\0\0\0\0\0\0\x02\0";
@@ -253,7 +292,6 @@ fn refused_lines(rt: HostRuntime) -> Result<(), Fail> {
 #[test]
 fn lines_not_built(rt: HostRuntime) -> Result<(), Fail> {
     let rows: &[(&[u8], u32)] = &[
-        (b"nodes 2\nlog", 2),
         (b"nodes 2\n1 merge 2\n1 drain 9\n1 fault link 2 1", 4),
         (b"nodes 3\n8 commit 3\njoin\n2 fault stop 1 1", 4),
     ];
@@ -320,6 +358,14 @@ const HIGH: &[u8] =
 const LIVE: &[u8] =
     b"nodes 3\n1 put a x\n1 put c x\n1 publish\n1 copy 2\n1 delete a\n1 publish\n1 copy 3\n1 crash 1 0\n1 promote 2 auto\n1 delete c\n1 publish\n1 copy 3\n1 search 3 x\n1 files 3\n";
 
+// An operation that the point lacks is in the log.
+const LOGGED: &[u8] =
+    b"nodes 2\nlog\n1 put a x\n1 publish\n1 copy 2\n1 put b x\n1 publish\n1 put c x\n1 crash 1 0\n1 promote 2 auto\n1 publish\n1 search 2 x\n";
+
+// The same without a log.
+const LOST: &[u8] =
+    b"nodes 2\n1 put a x\n1 publish\n1 copy 2\n1 put b x\n1 publish\n1 put c x\n1 crash 1 0\n1 promote 2 auto\n1 publish\n1 search 2 x\n";
+
 // Each refusal of a promotion.
 const REFUSED: &[u8] =
     b"nodes 3\n1 promote 2 auto\n1 crash 1 0\n1 promote 1 0\n1 promote 2 0\n1 promote 2 4611686018427387904\n";
@@ -342,6 +388,14 @@ fn promotions(rt: HostRuntime) -> Result<(), Fail> {
         (
             LIVE,
             b"\n8 copying 3 3\n8 switched 3 3\n8 copied 3 3\n9 crashed 1\n10 promoted 2 2 3 4\n11 accepted 4\n12 publishing\n12 published 2 5\n13 copying 3 5\n13 switched 3 5\n13 copied 3 5\n14 opened 3 0 5\n14 answer 3 0 5 1 1:a\n15 files 3 _10000.docs _10000.post _10000.si _10000_1z141z5.liv\n",
+        ),
+        (
+            LOGGED,
+            b"\n8 accepted 3\n9 crashed 1\n10 promoted 2 2 3 4\n10 accepted 4\n10 accepted 5\n11 publishing\n11 published 2 5\n12 opened 2 0 5\n12 answer 2 0 5 3 1:a 1:b 1:c\n",
+        ),
+        (
+            LOST,
+            b"\n7 accepted 3\n8 crashed 1\n9 promoted 2 2 3 4\n10 refused none\n11 opened 2 0 4\n11 answer 2 0 4 1 1:a\n",
         ),
         (
             REFUSED,

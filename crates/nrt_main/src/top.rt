@@ -8,6 +8,7 @@ ghost use Rattle.nrt_main.specs.Headline.{Ran, Answers, RanInPart, AnswersInPart
 ghost use Rattle.wire_frames.specs.Runs.{GaveBadStream, GaveMore};
 ghost use Rattle.nrt_main.specs.Frames.{IsFrames, RanFrames, RanFramesInPart, IsFramesAnswer};
 ghost use Rattle.nrt_main.specs.Check.{IsCheck, RanCheck, FoundWrong, RanCheckInPart, GaveNoImage, AnswersCheck};
+ghost use Rattle.nrt_main.specs.Complete.{NoneFailed, OffersScript, OffersMessages, OffersImage, IsDoneOrMemory, IsCheckedOrMemory};
 ghost use Rattle.nrt_main.specs.Judge.{IsJudge, RanJudge, FoundIllegal, RanJudgeInPart, RefusesJudge, AnswersJudge};
 ghost use Rattle.nrt_main.specs.Load.{IsLoad, IsLoadOf, LeavesSummary, LeavesSummaryInPart, IsLoadAnswer};
 ghost use Rattle.nrt_main.specs.Rows.{IsKnownRow};
@@ -175,7 +176,7 @@ fn run_source<R: Threads + Wait + Sync, S: Source, K: Sink, G: Gate + Sync>(
 }
 
 /// Reads a stream of frames from the source, and writes the lines of its messages to the sink.
-#[tactic(auto, using(crate::proofs::FrameAnswers::text_answer, crate::proofs::FrameAnswers::bad_answer))]
+#[tactic(auto, using(crate::proofs::FrameAnswers::text_answer, crate::proofs::FrameAnswers::bad_answer, crate::proofs::Complete::all_done, crate::proofs::Complete::out_of_memory, crate::proofs::Complete::not_unread, crate::proofs::Complete::not_unwritten, crate::proofs::Complete::stream_not_more))]
 fn frames_source<S: Source, K: Sink>(alloc: Global, source: &mut S, sink: &mut K) -> Status
     requires reads { S.fault_count source.old < 2 ^ 64 - 1 }
     requires writes { K.fault_count sink.old < 2 ^ 64 - 1 }
@@ -196,6 +197,9 @@ fn frames_source<S: Source, K: Sink>(alloc: Global, source: &mut S, sink: &mut K
     ensures others { (result ≢ Status.Usage) × (result ≢ Status.BadIndex) ×
         (result ≢ Status.BadImage) × ((n : LineNo) (cause : LineFault)
         → result ≢ Status.BadScript n cause) }
+    ensures complete { OffersMessages (S.left source.old)
+        → NoneFailed (S.fault_count source.old) (S.fault_count source.new)
+        (K.fault_count sink.old) (K.fault_count sink.new) → IsDoneOrMemory result }
 {
     let text = match run_frames(alloc, source) {
         Ok(text) => text,
@@ -235,7 +239,7 @@ fn frames_source<S: Source, K: Sink>(alloc: Global, source: &mut S, sink: &mut K
 /// says that it goes wrong, and the sink gained the line that says where and why.
 ///
 /// On every answer but `Done`, `WriteFault`, `BadIndex` and `BadReport` the sink is as before.
-#[tactic(auto, using(crate::proofs::Loads::one_word, crate::proofs::Loads::no_word, crate::proofs::Loads::takes_none))]
+#[tactic(auto, using(crate::proofs::Loads::one_word, crate::proofs::Loads::no_word, crate::proofs::Loads::takes_none, crate::proofs::Complete::script_done, crate::proofs::Complete::load_done))]
 pub fn run_nrt<R: Threads + Wait + Sync, S: Source, K: Sink, G: Gate + Sync>(
     rt: &R,
     alloc: Global,
@@ -319,6 +323,19 @@ pub fn run_nrt<R: Threads + Wait + Sync, S: Source, K: Sink, G: Gate + Sync>(
     ensures judge_answers { IsJudge words.now → result ≢ Status.ReadFault
         → result ≢ Status.TooLarge → result ≢ Status.Memory
         → AnswersJudge (S.left source.old) (S.left source.new) result }
+
+    // Where no read and no write failed, and the source has left what is asked for, all is done, or memory ran out.
+    ensures complete { IsRun words.now → OffersScript (S.left source.old)
+        → NoneFailed (S.fault_count source.old) (S.fault_count source.new)
+        (K.fault_count sink.old) (K.fault_count sink.new) → IsDoneOrMemory result }
+    ensures frames_complete { IsFrames words.now → OffersMessages (S.left source.old)
+        → NoneFailed (S.fault_count source.old) (S.fault_count source.new)
+        (K.fault_count sink.old) (K.fault_count sink.new) → IsDoneOrMemory result }
+    ensures check_complete { IsCheck words.now → OffersImage (S.left source.old)
+        → NoneFailed (S.fault_count source.old) (S.fault_count source.new)
+        (K.fault_count sink.old) (K.fault_count sink.new) → IsCheckedOrMemory result }
+    ensures load_complete { IsLoad words.now
+        → K.fault_count sink.new ≡ K.fault_count sink.old → IsDoneOrMemory result }
 
     // All five.
     ensures read { result ≡ Status.ReadFault → S.fault_count source.old < S.fault_count source.new }

@@ -11,8 +11,8 @@ use segment_infos::{decode, encode};
 use std::alloc::Global;
 use std::test::Fail;
 
-// The first segment of generation 1.
-const FIRST: SegNo = SegNo(1_679_616);
+/// The first segment of generation 1.
+pub const FIRST: SegNo = SegNo(1_679_616);
 
 /// Stored documents: the one document with the key `a` and the text `x`. The checksums are zlib's.
 pub const DOCS: [u8; 64] = [

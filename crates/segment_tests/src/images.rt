@@ -49,8 +49,8 @@ fn line_of(alloc: Global, image: &[u8]) -> Result<Vec<u8>, Fail> {
     Ok(checked.line.into_vec())
 }
 
-// Bytes of which one is altered.
-fn with_flip(alloc: Global, bytes: &[u8], at: usize, flip: u8) -> Result<Vec<u8>, Fail> {
+/// Bytes of which one is altered.
+pub fn with_flip(alloc: Global, bytes: &[u8], at: usize, flip: u8) -> Result<Vec<u8>, Fail> {
     let mut altered = bytes.to_vec(alloc)?;
     *altered.get_mut(at).ok_or("too short")? ^= flip;
     Ok(altered)

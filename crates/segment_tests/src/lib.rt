@@ -7,3 +7,5 @@ mod files;
 mod images;
 #[cfg(test)]
 mod messages;
+#[cfg(test)]
+mod readers;

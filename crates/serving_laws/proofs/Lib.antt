@@ -1,3 +1,4 @@
+mod FinishLemmas
 mod FitLemmas
 mod PlainServingLaws
 pub mod ReplayLemmas

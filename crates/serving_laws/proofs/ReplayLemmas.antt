@@ -45,7 +45,7 @@ serves_back script [] past serves = serves
 serves_back script (e ∷ front) past serves = serves_back script front past serves.1
 
 -- the entries newest first, behind the past
-turned : (e : Entry) (after : List Entry) (past : Past) → reverse (e ∷ after) ++ past ≡ reverse after ++ e ∷ past
+pub turned : (e : Entry) (after : List Entry) (past : Past) → reverse (e ∷ after) ++ past ≡ reverse after ++ e ∷ past
 turned e after past = ap (λ (es : List Entry). es ++ past) (reverse-append (e ∷ []) after) ∙ append_assoc (reverse after) (e ∷ []) past
 
 goes_on : (script : Script) → script.log ≡ true → (past : Past) (after : List Entry) → ServesLanes script (reverse after ++ past) → replay_due (reverse after ++ past) ≡ [] → GoesOn script past after

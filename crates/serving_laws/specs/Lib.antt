@@ -1,3 +1,4 @@
 pub mod Determined
+pub mod Finishing
 pub mod PlainServing
 pub mod Replay

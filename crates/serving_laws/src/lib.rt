@@ -1,6 +1,7 @@
-//! Laws of histories that serve a script: their report determines them, what a log replays, and that they serve it plainly.
+//! Laws of histories that serve a script: their report determines them, what a log replays, that they serve it plainly, and how lines end.
 #![tactic(auto)]
 
+mod finish_laws;
 mod plain_laws;
 mod printable;
 mod replay;

@@ -2,7 +2,7 @@ use Rattle.std.proofs.Common.{false, ◌∙◌, refl, ◌≡◌, [], sym, ap, So
 use Rattle.history_rules.specs.declared.entry.Event.TheVariants.{Publishing}
 use Rattle.primary_state.specs.declared.parts.PublishFault.TheVariants.{NamesSpent, TooManySegments}
 use Rattle.cluster_state.proofs.Frames.{slot_at, slot_kept, there_at, rule_at}
-use Rattle.cluster_publish.proofs.PublishPaths.{ok_at, err_at, on_err, primary_stands, none_flies, not_idle, not_spent, is_full_at, hands_out, asked_task, may_start, asked_some, start_path, back_path}
+use Rattle.cluster_publish.proofs.PublishPaths.{ok_at, err_at, on_err, primary_stands, none_flies, not_idle, not_spent, is_full_at, told_full, told_few, hands_out, asked_task, drawn_segs, may_start, asked_some, start_path, back_path}
 use Rattle.cluster_state.proofs.Turning.{log_is, nodes_is}
 use Rattle.cluster_publish.proofs.PublishFiles.{back_files, start_files}
 use Rattle.cluster_state.proofs.Ledgers.{asked_of, fresh_of, unbegun_of}
@@ -13,6 +13,8 @@ use Rattle.cluster_state.proofs.MergingStill.{primary_keeps, stand_kept, all_kee
 use Rattle.cluster_nodes.specs.declared.nodes.Node.TheVariants.{Primary}
 use Rattle.history_book.specs.declared.inner.Inner.TheVariants.{FlushOut}
 use Rattle.primary_state.specs.declared.parts.PrimaryParts.{PrimaryParts}
+use Rattle.primary_state.specs.Cut.{has_put}
+use Rattle.cluster_state.proofs.RestKept.{put_keeps, primary_tells}
 use Rattle.cluster_publish.proofs.writes.start_publish.Goals as goal
 
 pub take-requires-clause-slot : goal.take-requires-clause-slot
@@ -83,9 +85,9 @@ invariant_of-cluster-in-Err g c = λ running. (
 
 pub returns-in-Err-clause-ok : goal.returns-in-Err-clause-ok
 returns-in-Err-clause-ok g c =
+    let many = c.publish_start-started.ensures.too_many.0 (err_at _ _ TooManySegments c.in-Err.is c.in_ok-is_for_segments-in-Err.ensures) in
     let full = is_full_at g.D.Dir.cells c.args.cluster.now _ c.cluster.inside.ledger _ c.args.p c.take.result c.cluster.view_is c.requires.running (λ e. (c.cluster.invariant e).0) c.requires.node c.take.ensures.place
-    c.primary_in-primary.result.0 c.primary_in-primary.result.1 c.primary_in-primary.ensures
-    (c.publish_start-started.ensures.too_many.0 (err_at _ _ TooManySegments c.in-Err.is c.in_ok-is_for_segments-in-Err.ensures)) in (
+    c.primary_in-primary.result.0 c.primary_in-primary.result.1 c.primary_in-primary.ensures many in (
       record {
         running = refl;
         nodes = c.in_ok-reserve.ensures.nodes ∙ nodes_is c.args.cluster.now _ c.cluster.inside.ledger c.cluster.view_is;
@@ -93,6 +95,8 @@ returns-in-Err-clause-ok g c =
       },
       full.0,
       full.1,
+      told_full g.D.Dir.cells c.args.cluster.now _ c.cluster.inside.ledger _ c.args.p c.take.result c.cluster.view_is c.requires.running (λ e. (c.cluster.invariant e).0) c.requires.node c.take.ensures.place
+          c.primary_in-primary.result.0 c.primary_in-primary.result.1 c.primary_in-primary.ensures refl c.requires.primary many,
     )
 
 pub invariant_of-cluster-2 : goal.invariant_of-cluster-2
@@ -131,6 +135,27 @@ returns-clause-ok g c =
     c.primary_in-primary.result.0 c.primary_in-primary.result.1 c.primary_in-primary.ensures
     c.reserve.new.self c.show_publishing.new.self c.keep.new.self c.args.at c.in-Ok-Some.task c.in-Ok.segs c.in_ok-reserve.ensures.log c.in_ok-reserve.ensures.nodes c.show_publishing.ensures.log c.show_publishing.ensures.nodes
     c.keep.ensures.log c.keep.ensures.nodes (fresh_of c.book-book.ensures.log c.is_fresh.ensures) c.in-Ok.ensures task.0
+    (told_few g.D.Dir.cells c.args.cluster.now _ c.cluster.inside.ledger _ c.args.p c.take.result c.cluster.view_is c.requires.running (λ e. (c.cluster.invariant e).0) c.requires.node c.take.ensures.place
+    c.primary_in-primary.result.0 c.primary_in-primary.result.1 c.primary_in-primary.ensures c.publish_start-started.new.self c.in-Ok-Some.task refl c.requires.primary task.0 task.1 c.publish_start-started.ensures.whole)
 
 pub is_fresh-requires : goal.is_fresh-requires
 is_fresh-requires g c = asked_of (λ (l : Log). entries_of_line c.args.at (printed l) ≡ []) c.cluster.view_is c.book-book.ensures.log c.requires.fresh
+
+pub returns-in-Err-clause-rest : goal.returns-in-Err-clause-rest
+returns-in-Err-clause-rest g c =
+    let same = on_err _ _ c.in-Err.is c.publish_start-started.ensures.err in
+    put_keeps g.D.Dir.cells c.args.cluster.now c.cluster.inside.ledger c.reserve.new.self c.reserve.new.self c.cluster.inside.tasks _ c.take.new.places.items _ c.args.p.0
+    (record { node = Primary c.publish_start-started.new.self; held = c.primary_in-primary.result.1 }) (record { node = Primary c.primary_in-primary.result.0; held = c.primary_in-primary.result.1 })
+    c.cluster.view_is c.in_ok-reserve.ensures.cut refl (record { count = c.take.ensures.count; taken = c.take.ensures.places; again = c.put.ensures.count; there = c.put.ensures.places })
+    (c.take.ensures.place ∙ ap Some c.primary_in-primary.ensures)
+    (primary_tells c.primary_in-primary.result.0 c.publish_start-started.new.self c.primary_in-primary.result.1 (ap (λ (z : PrimaryParts _). z.commits) same) (ap (λ (z : PrimaryParts _). z.infos.segs) same) (ap (λ (z : PrimaryParts _). z.merges) same))
+
+pub returns-clause-rest : goal.returns-clause-rest
+returns-clause-rest g c =
+    let task = asked_task g.D.Dir.cells c.primary_in-primary.result.0 c.publish_start-started.new.self c.in-Ok-Some.field-0 c.in-Ok-Some.task c.in-Ok-Some.field-0-is c.in-Ok-Some.ensures.task c.in-Ok-Some.ensures.next in
+    put_keeps g.D.Dir.cells c.args.cluster.now c.cluster.inside.ledger c.reserve.new.self c.keep.new.self c.cluster.inside.tasks _ c.take.new.places.items _ c.args.p.0
+    (record { node = Primary c.publish_start-started.new.self; held = c.primary_in-primary.result.1 }) (record { node = Primary c.primary_in-primary.result.0; held = c.primary_in-primary.result.1 })
+    c.cluster.view_is c.in_ok-reserve.ensures.cut (c.keep.ensures.cut ∙ c.show_publishing.ensures.cut) (record { count = c.take.ensures.count; taken = c.take.ensures.places; again = c.put.ensures.count; there = c.put.ensures.places })
+    (c.take.ensures.place ∙ ap Some c.primary_in-primary.ensures)
+    (primary_tells c.primary_in-primary.result.0 c.publish_start-started.new.self c.primary_in-primary.result.1 (ap (λ (z : PrimaryParts _). z.commits) task.1)
+    (ap (λ (z : PrimaryParts _). z.infos.segs) task.1 ∙ drawn_segs (has_put c.primary_in-primary.result.0.waiting) c.primary_in-primary.result.0.infos) (ap (λ (z : PrimaryParts _). z.merges) task.1))

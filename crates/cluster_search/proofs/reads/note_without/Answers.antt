@@ -6,6 +6,7 @@ use Rattle.cluster_search.proofs.TicketPaths.{gives_back_at, without_path}
 use Rattle.cluster_state.proofs.FileFrames.{files_moved}
 use Rattle.cluster_state.proofs.Ledgers.{still_apart, still_reigns}
 use Rattle.cluster_state.proofs.MergingPaths.{third_at, put_shown, like_want, like_keeps, still_leaves}
+use Rattle.cluster_state.proofs.RestKept.{put_keeps, node_tells}
 use Rattle.cluster_search.proofs.reads.note_without.Goals as goal
 
 pub take-place-requires-clause-slot : goal.take-place-requires-clause-slot
@@ -54,3 +55,9 @@ show-requires-clause-apart g c = still_apart c.args.event c.requires.still
 
 pub show-requires-clause-reigns : goal.show-requires-clause-reigns
 show-requires-clause-reigns g c = still_reigns c.args.event _ c.requires.still
+
+pub returns-clause-rest : goal.returns-clause-rest
+returns-clause-rest g c =
+    put_keeps g.D.Dir.cells c.args.cluster.now c.cluster.inside.ledger c.reserve.new.self c.show.new.self c.cluster.inside.tasks c.cluster.inside.places.items c.take-place.new.places.items c.put.new.places.items c.args.n.0 c.give_ticket_back.new.place c.take-place.result
+    c.cluster.view_is c.in_ok-reserve.ensures.cut c.show.ensures.cut (record { count = c.take-place.ensures.count; taken = c.take-place.ensures.places; again = c.put.ensures.count; there = c.put.ensures.places })
+    c.take-place.ensures.place (node_tells g.D.Dir.cells c.take-place.result c.give_ticket_back.new.place c.give_ticket_back.ensures.keeps)

@@ -11,6 +11,7 @@ use Rattle.cluster_state.proofs.Turning.{fresh_turn_at, log_is, nodes_is}
 use Rattle.history_rules.specs.declared.entry.Event.TheVariants.{Opened}
 use Rattle.cluster_state.specs.Run.{Run}
 use Rattle.cluster_state.proofs.MergingPaths.{third_at, put_shown, like_want, like_keeps}
+use Rattle.cluster_state.proofs.RestKept.{put_keeps, node_tells}
 use Rattle.cluster_search.proofs.reads.open_ticket.Goals as goal
 
 pub take-place-requires-clause-slot : goal.take-place-requires-clause-slot
@@ -69,3 +70,9 @@ returns-clause-ok g c =
 
 pub version-requires : goal.version-requires
 version-requires g c = asked_size (λ (k : ℕ). IsNode k c.args.n.0) c.cluster.view_is c.book-book.ensures.nodes c.requires.node
+
+pub returns-clause-rest : goal.returns-clause-rest
+returns-clause-rest g c =
+    put_keeps g.D.Dir.cells c.args.cluster.now c.cluster.inside.ledger c.reserve.new.self c.show.new.self c.cluster.inside.tasks c.cluster.inside.places.items c.take-place.new.places.items c.put.new.places.items c.args.n.0 c.hold_ticket-holding.new.place c.take-place.result
+    c.cluster.view_is c.in_ok-reserve.ensures.cut c.show.ensures.cut (record { count = c.take-place.ensures.count; taken = c.take-place.ensures.places; again = c.put.ensures.count; there = c.put.ensures.places })
+    c.take-place.ensures.place (node_tells g.D.Dir.cells c.take-place.result c.hold_ticket-holding.new.place c.in_ok-holding.ensures.keeps)

@@ -1,6 +1,7 @@
 use Rattle.cluster_state.proofs.Rows.{fresh_start, legal_at}
 use Rattle.cluster_search.proofs.ReadRows.{ticket_told, close_rule, close_node}
 use Rattle.cluster_state.proofs.LifeRows.{fresh_no_commit}
+use Rattle.cluster_state.proofs.Ended.{closed_key}
 use Rattle.cluster_search.proofs.tickets.ticket_close.Goals as goal
 
 pub has_no_commit-requires : goal.has_no_commit-requires
@@ -16,3 +17,9 @@ note_without-requires-clause-line g c = fresh_start _ c.args.at c.requires.fresh
 pub note_without-requires-clause-node : goal.note_without-requires-clause-node
 note_without-requires-clause-node g c =
     close_node _ _ c.args.at c.args.t _ _ c.in-Some.opening c.book-in-Some.ensures.nodes c.book-in-Some.ensures.log c.is_legal.ensures.legal (ticket_told _ _ _ _ c.ticket.result _ c.book.ensures.log c.ticket.ensures.some c.in-Some.is)
+
+pub note_without-requires-clause-apart : goal.note_without-requires-clause-apart
+note_without-requires-clause-apart g c = λ m other. other
+
+pub note_without-requires-clause-ends : goal.note_without-requires-clause-ends
+note_without-requires-clause-ends g c = closed_key _ c.args.at c.in-Some.opening.node c.args.t

@@ -1,8 +1,9 @@
-use Rattle.std.proofs.Common.{ap}
+use Rattle.std.proofs.Common.{ap, refl, ◌∙◌}
 use Rattle.cluster_state.specs.Run.{Run}
 use Rattle.cluster_state.proofs.Frames.{noted, rule_at, told_at}
 use Rattle.cluster_state.proofs.FileFrames.{files_noted}
 use Rattle.cluster_state.proofs.Ledgers.{still_apart, still_reigns}
+use Rattle.cluster_state.proofs.RestKept.{kept_rest}
 use Rattle.cluster_state.proofs.MergingStill.{stand_shown, all_keep}
 use Rattle.cluster_state.proofs.MergingPaths.{third_at, still_leaves}
 use Rattle.cluster_state.proofs.cluster.ClusterState.note.Goals as goal
@@ -37,3 +38,6 @@ returns-clause-tasks g c = ap (λ (r : Run). r.rest.tasks) c.self.view_is
 
 pub returns-clause-jobs : goal.returns-clause-jobs
 returns-clause-jobs g c = ap (λ (r : Run). r.rest.jobs) c.self.view_is
+
+pub returns-clause-rest : goal.returns-clause-rest
+returns-clause-rest g c = kept_rest c.args.self.now _ _ c.self.view_is refl (c.show.ensures.cut ∙ c.in_ok-reserve.ensures.cut) refl refl refl refl

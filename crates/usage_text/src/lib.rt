@@ -1,0 +1,125 @@
+//! What the program says of itself: its help, its version, and what is wrong with words that are no command.
+#![tactic(auto)]
+
+use clap::builder::ValueParser;
+use clap::error::ErrorKind;
+use clap::{Arg, Command};
+use std::alloc::{AllocError, Global};
+use std::convert::AsStr;
+
+const VERSION: &str = "0.1.0";
+
+const ABOUT: &str = "Near-real-time segment replication as in Lucene, every step of it proved.\n\
+    It runs a script of puts, publishes, copies, searches and crashes over a\n\
+    cluster of nodes, and reports what happened.";
+
+const USAGE: &str = "nrt run < SCRIPT\n\
+    \x20      nrt load N\n\
+    \x20      nrt check < IMAGE\n\
+    \x20      nrt frames < STREAM\n\
+    \x20      nrt judge < SCRIPT_AND_REPORT";
+
+const NOTES: &str = "EXAMPLE of a script:\n\
+    \x20   nodes 2\n\
+    \x20   1 put a Quick fox\n\
+    \x20   1 publish\n\
+    \x20   1 copy 2\n\
+    \x20   1 search 2 fox\n\
+    A script has two nodes or more, and a line for each step, behind the number of\n\
+    the client that does it.\n\
+    \n\
+    EXIT STATUS:\n\
+    \x20   0   done\n\
+    \x20   2   the words are no command\n\
+    \x20   3   a line of the script is refused\n\
+    \x20   4   standard input cannot be read\n\
+    \x20   5   standard output cannot be written\n\
+    \x20   6   out of memory\n\
+    \x20   7   the input has more than 16,777,216 bytes\n\
+    \x20   8   check: something is wrong with the directory\n\
+    \x20   9   check: the input is no image of a directory\n\
+    \x20   10  frames: the stream is bad\n\
+    \x20   11  judge: the report is not that of a legal history";
+
+const NUMBERS: &str = "a number is decimal, without a sign and without leading zeros";
+
+/// A command of the program.
+fn row<'a>(alloc: Global, name: &'a str, usage: &'a str, about: &'a str) -> Command<'a> {
+    Command::new(alloc, name)
+        .about(about)
+        .override_usage(usage)
+        .disable_help_flag(true)
+}
+
+/// The argument N of a command, from 1 to this.
+fn number<'a>(alloc: Global, most: u64, help: &'a str) -> Arg<'a> {
+    Arg::new(alloc, "N")
+        .required(true)
+        .value_parser(ValueParser::unsigned(1, most))
+        .help(help)
+}
+
+/// The program, as a command with its commands.
+fn program<'a>(alloc: Global) -> Result<Command<'a>, AllocError> {
+    let load = row(
+        alloc,
+        "load",
+        "nrt load N",
+        "Run the generated script of N documents, 1 to 10000; write its totals",
+    );
+    Command::new(alloc, "nrt")
+        .version(VERSION)
+        .about(ABOUT)
+        .override_usage(USAGE)
+        .after_help(NOTES)
+        .subcommand_required(true)
+        .disable_help_subcommand(true)
+        .subcommand(row(
+            alloc,
+            "run",
+            "nrt run < SCRIPT",
+            "Run the script on standard input; write its report",
+        ))?
+        .subcommand(load.arg(number(alloc, 10000, "how many documents"))?)?
+        .subcommand(row(
+            alloc,
+            "check",
+            "nrt check < IMAGE",
+            "Check the image of a directory on standard input",
+        ))?
+        .subcommand(row(
+            alloc,
+            "frames",
+            "nrt frames < STREAM",
+            "Tell the messages of a stream of replication frames on standard input",
+        ))?
+        .subcommand(row(
+            alloc,
+            "judge",
+            "nrt judge < SCRIPT_AND_REPORT",
+            "Judge a report: whether it is that of a legal history of its script",
+        ))
+}
+
+/// What the program says where this word alone stands behind its name: its help (`-h`, `--help`) or its version (`-V`, `--version`).
+/// Any other word asks for nothing.
+pub fn asked(alloc: Global, word: &str) -> Result<Option<String>, AllocError> {
+    if word == "-h" || word == "--help" {
+        Ok(Some(program(alloc)?.render_help()?))
+    } else if word == "-V" || word == "--version" {
+        Ok(Some(program(alloc)?.render_version()?))
+    } else {
+        Ok(None)
+    }
+}
+
+/// What is wrong with words that are no command, the program's name before them.
+pub fn mistake<'a, S: AsStr>(alloc: Global, words: &'a [S]) -> Result<String, AllocError> {
+    let mut program = program(alloc)?;
+    match program.try_get_matches_from_mut(words) {
+        Err(error) => error.to_string(alloc),
+        Ok(_) => program
+            .error(ErrorKind::InvalidValue, NUMBERS)?
+            .to_string(alloc),
+    }
+}
