@@ -6,3 +6,4 @@ mod AnswerLaws
 mod FrameAnswers
 mod CheckAnswers
 mod Complete
+mod Shown

@@ -4,6 +4,7 @@ pub mod Frames
 pub mod Check
 pub mod Complete
 pub mod Load
+pub mod Pictures
 pub mod Rows
 pub mod Statuses
 pub mod TopCalls

@@ -4,7 +4,8 @@ use Rattle.nrt_main.specs.Headline.{IsRun}
 use Rattle.nrt_main.specs.Frames.{IsFrames}
 use Rattle.nrt_main.specs.Check.{IsCheck}
 use Rattle.nrt_main.specs.Load.{IsLoad}
+use Rattle.nrt_main.specs.Pictures.{IsShowing}
 
--- the words are a row of the table: `run`, `frames`, `check` or `load N`
+-- the words are a row of the table: `run`, `frames`, `check`, `load N`, `picture` or `picture svg`
 abbrev pub IsKnownRow : List (List ℕ) → Type 0
-IsKnownRow words = IsRun words ⊎ (IsFrames words ⊎ (IsCheck words ⊎ IsLoad words))
+IsKnownRow words = IsRun words ⊎ (IsFrames words ⊎ (IsCheck words ⊎ (IsLoad words ⊎ IsShowing words)))

@@ -10,6 +10,7 @@ mod checking;
 mod gate;
 mod loading;
 mod message;
+mod picturing;
 mod reading;
 #[cfg(test)]
 mod sentences;
