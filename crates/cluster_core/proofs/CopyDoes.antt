@@ -328,3 +328,15 @@ settle_done at size old left s r new (Err e) view running settling legal turns o
 settle_done at size old left s r new (Ok turn) view running settling legal turns ok =
     let here = subst (λ (x : Run). IsSettling x.nodes (printed x.log) at old) (sym view) settling in
     does_was Settle at s r new view (settled_does at size left s new (Settling old.version) turn (runs_in s r view running) legal turns here.started here.is_open ok)
+
+-- a line with a job asked for copies
+pub copies_asked : (at : At) (row : JobRow) (s r : Run) (l : Log) → s ≡ r → l ≡ s.log → row.job.at ≡ at
+    → StartsJob (before_start row.job.at (printed l)) row.job.node.0 row.job.version.0 (start_entry row.job.at (printed l)) → (command : LineCommand) × CopiesFor command (start_entry at (printed r.log))
+copies_asked at row s r l view same at_is starts =
+    subst (λ (x : Log × At). (command : LineCommand) × CopiesFor command (start_entry x.1 (printed x.0))) (λ i. ((same ∙ ap (λ (z : Run). z.log) view) i, at_is i)) (by (start_entry row.job.at (printed l)) starts)
+  where
+    by : (o : Option Event) → StartsJob (before_start row.job.at (printed l)) row.job.node.0 row.job.version.0 o → (command : LineCommand) × CopiesFor command o
+    by None starts = absurd starts
+    by (Some (Copying m w)) starts = (Copy m, refl)
+    by (Some (Settling w)) starts = (Settle, tt)
+    by (Some e) starts = absurd starts

@@ -37,6 +37,7 @@ impl<D: FaultDir + Drop> Cluster<D> {
     ghost use Rattle.history_book.specs.Turns.{AreInTurn};
     ghost use Rattle.history_book.specs.Told.{IsTold};
     ghost use Rattle.cluster_state.specs.Starting.{IsEmptyDir};
+    ghost use Rattle.cluster_state.specs.Run.{IsEnded};
 
     /// A cluster over these empty directories. Node 1 is the primary, and the others are replicas.
     pub fn start(alloc: Global, dirs: Vec<D>) -> Result<Self, NoMemory>
@@ -61,6 +62,20 @@ impl<D: FaultDir + Drop> Cluster<D> {
     {
         self.state.book().is_legal();
         self.state.has_ended()
+    }
+
+    /// How many nodes it has.
+    pub fn node_count(&self) -> u8
+        ensures { result ≡ self.now.nodes }
+    {
+        self.state.book().node_count()
+    }
+
+    /// Ends it, for a caller that found no memory.
+    pub fn end(&mut self)
+        ensures { IsEnded self.old self.new }
+    {
+        self.state.end();
     }
 
     /// The printed entries, in order.

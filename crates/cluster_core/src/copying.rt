@@ -168,6 +168,17 @@ impl<D: FaultDir + Drop> Cluster<D> {
         settle_next(&mut self.state, alloc, at, task)
     }
 
+    /// A line that copies by a job asked for a copy or for a settle. A law.
+    pub fn asked_to_copy(&self, at: At, task: &CopyTask)
+        requires copying { IsCopying at self.now.log task.now }
+        ensures { (command : LineCommand) × CopiesFor command (start_entry at (printed self.now.log)) }
+    {
+        let Some(row) = self.state.book().job_of(at.lane) else {
+            unreachable!()
+        };
+        self.state.book().job_shows(row);
+    }
+
     /// Whether the line has started and has no reply.
     pub fn is_open(&self, at: At) -> bool
         ensures { IsTrue result ↔ (open_line at (printed self.now.log) ≢ None) }

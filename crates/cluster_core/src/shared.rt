@@ -1,47 +1,8 @@
-//! A cluster, as lanes share it under the lock.
-
-ghost use Rattle.std.specs.Prelude.{false, reverse};
-ghost use Rattle.history_book.specs.Log.{name_of};
+//! What lanes read of a cluster.
 
 use crate::cluster::Cluster;
 use disk_model::FaultDir;
-use hist_lock::Grows;
-use history_book::Mark;
-use lane_threads::{LaneRun, Setup};
 use nrt_base::{LaneNo, NodeNo, TicketNo};
-
-impl<D: FaultDir> Grows for Cluster<D> {
-    type Entry = Mark;
-
-    ghost history = { λ c. reverse c.log };
-
-    ghost names = { name_of };
-}
-
-impl<D: FaultDir + Drop> LaneRun for Cluster<D> {
-    ghost use Rattle.std.specs.Prelude.{refl};
-
-    ghost log = { λ c. c.log };
-
-    ghost ended = { λ c. c.ended };
-
-    ghost set_up = { λ c. record { nodes = c.nodes; log = false } };
-
-    fn has_ended(&self) -> bool {
-        self.ended()
-    }
-
-    fn setup(&self) -> Setup {
-        Setup {
-            nodes: self.state.book().node_count(),
-            log: false,
-        }
-    }
-
-    ghost in_order = { λ c. refl };
-
-    ghost named = { refl };
-}
 
 impl<D: FaultDir + Drop> Cluster<D> {
     ghost use Rattle.std.specs.Prelude.{◌≡◌, false, ◌↔◌, IsTrue, IsSomeAnd};

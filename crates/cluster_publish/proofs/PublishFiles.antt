@@ -17,7 +17,7 @@ use Rattle.history_rules.specs.declared.entry.Event.TheVariants.{Accepted, Publi
 use Rattle.nrt_base.specs.SegNumbers.{segments_of_generation, segment_number}
 use Rattle.history_rules.specs.Nodes.{Past, IsNode, primary_of}
 use Rattle.history_rules.specs.Points.{cut_has_put, names_drawn, is_drawn}
-use Rattle.history_rules.specs.Lines.{publish_in_flight}
+use Rattle.history_rules.specs.Lines.{start_entry, publish_in_flight}
 use Rattle.history_rules.specs.Legal.{KeepsRule, IsLegalPast}
 use Rattle.history_book.specs.Log.{Log, printed, shown, kept}
 use Rattle.merge_tasks.specs.Merging.{Sheet}
@@ -217,12 +217,12 @@ module _ {D : Type 0} (cells : D → Cells) where
     here = (subst (λ (z : NodePlace D). PlaceShows cells r.log n.0 z) is (place_at cells r ended b0.nodes n.0 b0.log old x view running shows node there)).node_shows
 
     module _ (b2 : Sheet) (at : At) (legal : IsLegalPast b1.nodes (printed b1.log)) (turns : AreInTurn (printed b1.log)) where
-      pub accept_files : (seq : ℕ) (op copy : Op) → b2.log ≡ shown at (Accepted seq op) ∷ b1.log → b2.nodes ≡ b1.nodes → IsFresh at (printed b0.log) → KeepsRule r.nodes (printed r.log) at (Accepted seq op)
+      pub accept_files : (seq : ℕ) (op copy : Op) → b2.log ≡ shown at (Accepted seq op) ∷ b1.log → b2.nodes ≡ b1.nodes → start_entry at (printed r.log) ≡ None → KeepsRule r.nodes (printed r.log) at (Accepted seq op)
           → q ≡ record p { waiting = p.waiting ++ copy ∷ []; accepted = p.accepted + 1 } → FilesShow cells b2.log b2.nodes new
-      accept_files seq op copy e2 n2 fresh rule next =
+      accept_files seq op copy e2 n2 begun rule next =
           files_moved cells r ended b0 b1 b2 old mid new at (Accepted seq op) n.0 (record { node = Primary q; held = held }) x view running shows files e1 n1 e2 n2 legal turns rule
-          (fresh_turn (printed r.log) at (Accepted seq op) (past_has (IsFresh at) r ended b0 view fresh) tt) (λ m. refl) (λ m. refl)
-          (flights_of cells r ended b0 b1 at view e1 n1 legal turns (past_has (IsFresh at) r ended b0 view fresh).begun) put node there
+          (later_turn (printed r.log) at (Accepted seq op) refl tt) (λ m. refl) (λ m. refl)
+          (flights_of cells r ended b0 b1 at view e1 n1 legal turns begun) put node there
           (keeps_at (subst (λ (z : PrimaryParts D). KeepsNodeFiles cells (Primary p) (Primary z)) (sym next) (accepted_alone p (p.waiting ++ copy ∷ []) (p.accepted + 1))))
           (holds_at (printed (shown at (Accepted seq op) ∷ r.log)) (holds_same cells (printed (shown at (Accepted seq op) ∷ r.log)) (Primary p) (Primary q) (ap (λ (z : PrimaryParts D). z.searchers.tickets) next) (ap (λ (z : PrimaryParts D). loose_of z) next)))
 

@@ -13,7 +13,8 @@ use Rattle.disk_model.specs.Disk.{Cells, reads_of}
 use Rattle.seg_reader.specs.Shown.{Shown}
 use Rattle.history_rules.specs.declared.entry.Event.TheVariants.{Accepted, Publishing, Published}
 use Rattle.history_rules.specs.Nodes.{IsNode, primary_of, newest_version, generation_of, accepted_count}
-use Rattle.history_rules.specs.Lines.{same_at, publish_in_flight, is_free_for}
+use Rattle.history_rules.specs.Lines.{same_at, start_entry, is_answered, publish_in_flight, is_free_for}
+use Rattle.history_rules.specs.Faults.{has_met_fault}
 use Rattle.history_rules.specs.Points.{operations_of_generation, cut_of, cut_has_put, names_drawn, merges_started, idle_publishes}
 use Rattle.history_rules.specs.Legal.{KeepsRule, IsLegalPast}
 use Rattle.script_serving.specs.Refusals.{may_be_full}
@@ -50,7 +51,7 @@ use Rattle.cluster_state.proofs.Frames.{PutsBack, some_at, was, now_is, place_at
 use Rattle.cluster_publish.proofs.Written.{accepted_place, started_place, published_place}
 use Rattle.cluster_publish.proofs.Filling.{as_many, is_full}
 use Rattle.cluster_publish.proofs.Primaries.{others_apart, primary_there, has_primary, numbered, unpublished, is_work}
-use Rattle.cluster_state.proofs.Turning.{fresh_line, log_is, nodes_is, past_has}
+use Rattle.cluster_state.proofs.Turning.{log_is, nodes_is, past_has}
 
 -- ---- what a call answered
 
@@ -71,11 +72,11 @@ drawn_segs false infos = refl
 -- ---- rules
 
 pub may_accept : (r : Run) (ended : Bool) (b : Sheet) (at : At) (p : NodeNo) (seq : ℕ) (op : Op) → {left : Rest} → record { ended = ended; nodes = b.nodes; log = b.log; rest = left } ≡ r
-    → IsFresh at (printed b.log) → primary_of (printed r.log) ≡ Some p → seq ≡ accepted_count (printed b.log) + 1 → KeepsRule r.nodes (printed r.log) at (Accepted seq op)
-may_accept r ended b at p seq op view fresh primary next = record {
+    → (has_met_fault at (printed r.log) ≡ false) ⊎ (is_answered at (printed r.log) ≡ true) → primary_of (printed r.log) ≡ Some p → seq ≡ accepted_count (printed b.log) + 1 → KeepsRule r.nodes (printed r.log) at (Accepted seq op)
+may_accept r ended b at p seq op view spared primary next = record {
   running = λ none. some_none (sym primary ∙ none);
   next = past_has (λ q. seq ≡ accepted_count q + 1) r ended b view next;
-  spared = inl (past_has (IsFresh at) r ended b view fresh).spared;
+  spared = spared;
 }
   where
     some_none : Some p ≡ None → ⊥
@@ -257,15 +258,18 @@ module _ {D : Type 0} (cells : D → Cells) where
   pub accept_path : (r : Run) (ended : Bool) (b0 b1 b2 : Sheet) (old mid new : List (Option (NodePlace D))) (at : At) (n : NodeNo) (seq : ℕ) (op copy : Op) (x : NodePlace D) (p q : PrimaryParts D) (held : Vec HeldTicket Global)
       → {left : Rest} → record { ended = ended; nodes = b0.nodes; log = b0.log; rest = left } ≡ r → r.ended ≡ false → (ended ≡ false → Shows cells b0.log b0.nodes old)
       → b1.log ≡ b0.log → b1.nodes ≡ b0.nodes → b2.log ≡ shown at (Accepted seq op) ∷ b1.log → b2.nodes ≡ b1.nodes → IsLegalPast b1.nodes (printed b1.log) → AreInTurn (printed b1.log)
-      → IsFresh at (printed b0.log) → KeepsRule r.nodes (printed r.log) at (Accepted seq op) → IsNode r.nodes n.0 → primary_of (printed r.log) ≡ Some n
+      → start_entry at (printed r.log) ≡ None → KeepsRule r.nodes (printed r.log) at (Accepted seq op) → IsNode r.nodes n.0 → primary_of (printed r.log) ≡ Some n
       → PutsBack cells old mid new n.0 (record { node = Primary q; held = held }) → place_of old n.0 ≡ Some x → x ≡ record { node = Primary p; held = held }
       → copy ≡ op → q ≡ record p { waiting = p.waiting ++ copy ∷ []; accepted = p.accepted + 1 } → IsPrimary cells q → Shows cells b2.log b2.nodes new
-  accept_path r ended b0 b1 b2 old mid new at n seq op copy x p q held view running shows e1 n1 e2 n2 legal turns fresh keeps node primary put there is same next whole =
-      let line = fresh_line (printed r.log) at (past_has (IsFresh at) r ended b0 view fresh) in
+  accept_path r ended b0 b1 b2 old mid new at n seq op copy x p q held view running shows e1 n1 e2 n2 legal turns begun keeps node primary put there is same next whole =
+      let line : start_entry at (printed r.log) ≢ Some Publishing = λ is. none_some (sym begun ∙ is) in
       moved_at cells r ended b0 b1 b2 old mid new at (Accepted seq op) n.0 (record { node = Primary q; held = held }) x view running shows e1 n1 e2 n2 legal turns keeps
       (λ m apart here. line) (λ m apart. others_apart (primary_of (printed r.log)) n m primary apart) (λ m apart. refl) put node there
       (λ all order was. accepted_place cells r.nodes r.log at seq op n.0 p q held all order keeps line
       (subst (λ (o : Op). q ≡ record p { waiting = p.waiting ++ o ∷ []; accepted = p.accepted + 1 }) same next) whole (subst (PlaceShows cells r.log n.0) is was))
+    where
+      none_some : None ≡ Some Publishing → ⊥
+      none_some is = absurd (cc)
 
   pub start_path : (r : Run) (ended : Bool) (b0 b1 b2 b3 : Sheet) (old mid new : List (Option (NodePlace D))) (at : At) (n : NodeNo) (seg : Option SegNo) (segs : List Shown) (x : NodePlace D) (p q : PrimaryParts D) (held : Vec HeldTicket Global)
       → {left : Rest} → record { ended = ended; nodes = b0.nodes; log = b0.log; rest = left } ≡ r → r.ended ≡ false → (ended ≡ false → Shows cells b0.log b0.nodes old)

@@ -4,4 +4,4 @@
 mod publishes;
 mod writes;
 
-pub use publishes::{accept, publish_end, publish_start};
+pub use publishes::{accept, accept_again, publish_end, publish_start};

@@ -1,8 +1,8 @@
 //! What the primary accepts, and publishes.
 
-ghost use Rattle.std.specs.Prelude.{◌≡◌, ◌≢◌, ◌+◌, ◌∷◌, [], false, true, ◌==◌, Some, OnOk, OnErr, IfOk, IfSome};
+ghost use Rattle.std.specs.Prelude.{◌≡◌, ◌≢◌, ◌+◌, ◌∷◌, [], false, true, ◌==◌, None, Some, OnOk, OnErr, IfOk, IfSome};
 ghost use Rattle.history_rules.specs.Nodes.{IsNode, primary_crashes, primary_of, accepted_count};
-ghost use Rattle.history_rules.specs.Lines.{entries_of_line, last_of_line, start_entry, before_start, publish_in_flight};
+ghost use Rattle.history_rules.specs.Lines.{entries_of_line, is_answered, last_of_line, start_entry, before_start, publish_in_flight};
 ghost use Rattle.history_rules.specs.Commits.{is_disk_fault};
 ghost use Rattle.history_tables.specs.Begins.{open_line};
 ghost use Rattle.history_book.specs.Log.{printed, shown};
@@ -39,6 +39,28 @@ pub fn accept<D: FaultDir + Drop>(
 {
     match state.primary() {
         None => refuse(state, at, Cause::NoPrimary),
+        Some(p) => accept_at(alloc, state, at, p, op),
+    }
+}
+
+/// Accepts an operation again, for a line that has its reply, while a primary runs.
+pub fn accept_again<D: FaultDir + Drop>(
+    state: &mut ClusterState<D>,
+    alloc: Global,
+    at: At,
+    op: Op,
+) -> Result<(), NoMemory>
+    requires running { state.old.ended ≡ false }
+    requires begun { start_entry at (printed state.old.log) ≡ None }
+    requires replied { is_answered at (printed state.old.log) ≡ true }
+    requires primary { primary_of (printed state.old.log) ≢ None }
+    ensures ok { OnOk result (IsNow state.old state.new (shown at
+        (Event.Accepted (accepted_count (printed state.old.log) + 1) op) ∷ state.old.log)) }
+    ensures rest { OnOk result (KeepsRest state.old state.new) }
+    ensures err { OnErr result (IsEnded state.old state.new) }
+{
+    match state.primary() {
+        None => unreachable!(),
         Some(p) => accept_at(alloc, state, at, p, op),
     }
 }

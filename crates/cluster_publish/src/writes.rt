@@ -3,7 +3,8 @@
 ghost use Rattle.std.specs.Prelude.{◌≡◌, ◌≢◌, ◌≤◌, ◌+◌, ◌*◌, ◌<◌, ◌^◌, ◌∷◌, ◌⊎◌, [], false, true, None, Some, IfSome, OnOk, OnErr, IfOk, length, map};
 ghost use Rattle.nrt_base.specs.SegNumbers.{segments_of_generation};
 ghost use Rattle.history_rules.specs.Nodes.{IsNode, primary_of, newest_version, generation_of, accepted_count};
-ghost use Rattle.history_rules.specs.Lines.{entries_of_line, publish_in_flight, is_answered};
+ghost use Rattle.history_rules.specs.Lines.{entries_of_line, start_entry, publish_in_flight, is_answered};
+ghost use Rattle.history_rules.specs.Faults.{has_met_fault};
 ghost use Rattle.history_rules.specs.Points.{cut_of, cut_has_put, names_drawn};
 ghost use Rattle.history_rules.specs.Legal.{KeepsRule, IsLegalPast};
 ghost use Rattle.history_book.specs.Laws.{Flying};
@@ -51,7 +52,8 @@ fn is_for_segments(fault: PublishFault) -> Result<(), NoMemory>
 }
 
 /// The primary accepts an operation, whose number is one above that of the last that was accepted. It fails when out of memory,
-/// or out of numbers below 2^32: the cluster has ended, and the history is as before.
+/// or out of numbers below 2^32: the cluster has ended, and the history is as before. The line has not started, and has met no fault or
+/// has its reply.
 pub fn accept_at<D: FaultDir + Drop>(
     alloc: Global,
     cluster: &mut ClusterState<D>,
@@ -60,7 +62,9 @@ pub fn accept_at<D: FaultDir + Drop>(
     op: Op,
 ) -> Result<(), NoMemory>
     requires running { cluster.old.ended ≡ false }
-    requires fresh { entries_of_line at (printed cluster.old.log) ≡ [] }
+    requires begun { start_entry at (printed cluster.old.log) ≡ None }
+    requires spared { (has_met_fault at (printed cluster.old.log) ≡ false)
+        ⊎ (is_answered at (printed cluster.old.log) ≡ true) }
     requires node { IsNode cluster.old.nodes p.0 }
     requires primary { primary_of (printed cluster.old.log) ≡ Some p }
     ensures ok { OnOk result (IsNow cluster.old cluster.new (shown at
@@ -69,7 +73,6 @@ pub fn accept_at<D: FaultDir + Drop>(
     ensures err { OnErr result (IsEnded cluster.old cluster.new) }
 {
     let book = cluster.ledger.book();
-    book.is_fresh(at);
     book.is_counted();
     let next = next_number(book.accepted());
     cluster.ended = true;

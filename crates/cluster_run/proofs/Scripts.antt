@@ -1,5 +1,5 @@
 -- A script of lines that are run, and the history that its run leaves.
-use Rattle.std.proofs.Common.{◌≡◌, ◌&&◌, Bool, true, false, List, [], ◌∷◌, refl, sym, ap}
+use Rattle.std.proofs.Common.{◌≡◌, ◌&&◌, Bool, true, List, [], ◌∷◌, refl, sym, ap, subst}
 use Rattle.std.specs.List.{list_all}
 use Rattle.std.proofs.lemmas.Bool.{and_from, and_parts}
 use Rattle.history_rules.specs.declared.entry.History.{History}
@@ -11,6 +11,7 @@ use Rattle.script_serving.specs.Serves.{Serves}
 use Rattle.lane_threads.specs.Phases.{IsHistoryOf}
 use Rattle.lane_threads.specs.declared.run.Setup.{Setup}
 use Rattle.lane_threads.specs.Lanes.{setup_of}
+use Rattle.lane_sections.specs.Given.{SiteRun, is_logged}
 use Rattle.cluster_state.specs.Run.{Run}
 use Rattle.cluster_run.specs.Built.{is_run, IsPlainScript}
 use Rattle.cluster_run.specs.Running.{history_of}
@@ -26,10 +27,8 @@ all_both p q (line ∷ lines) hp hq =
 pub lines_run : (script : Script) → IsInForm script → IsPlainScript script → list_all (λ line. is_command script.nodes line.command && is_run line.command) (lines_of script) ≡ true
 lines_run script form plain = all_both (λ line. is_command script.nodes line.command) (λ line. is_run line.command) (lines_of script) form.commands plain.commands
 
--- runs of a plain script have no log
-pub plain_setup : (script : Script) → IsPlainScript script → record { nodes = script.nodes; log = false } ≡ setup_of script
-plain_setup script plain = ap (λ (b : Bool). record { nodes = script.nodes; log = b }) (sym plain.log)
-
 -- the history that was left serves the script
-pub left_serves : (script : Script) (r : Run) → record { nodes = r.nodes; log = false } ≡ setup_of script → ((h : History) → IsHistoryOf script.nodes r.log h → Serves script h) → Serves script (history_of r)
-left_serves script r setup serves = serves (history_of r) (record { nodes = ap (λ (s : Setup). s.nodes) setup; entries = refl })
+pub left_serves : (script : Script) (s : SiteRun) (r : Run) → record { nodes = s.run.nodes; log = is_logged s } ≡ setup_of script → ((h : History) → IsHistoryOf script.nodes s.run.log h → Serves script h) → r ≡ s.run
+    → Serves script (history_of r)
+left_serves script s r setup serves is =
+    subst (λ (x : Run). Serves script (history_of x)) (sym is) (serves (history_of s.run) (record { nodes = ap (λ (x : Setup). x.nodes) setup; entries = refl }))

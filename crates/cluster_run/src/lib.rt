@@ -6,6 +6,6 @@ pub mod line;
 pub mod runner;
 pub mod script;
 
-pub use lane_sections::{Cluster, Gate, Place};
+pub use lane_sections::{Cluster, Gate, Place, Site};
 pub use runner::ClusterLines;
 pub use script::run_script;

@@ -16,13 +16,15 @@ use crate::runner::ClusterLines;
 use cluster_nodes::NodePlace;
 use cluster_state::ClusterState;
 use disk_memory::MemDir;
-use lane_sections::{Cluster, Gate};
+use lane_sections::{Cluster, Gate, Site};
+use lane_threads::Setup;
 use merge_tasks::{Ledger, Tasks};
 use nrt_base::NoMemory;
 use script_serving::Script;
 use std::alloc::Global;
 use std::sync::Wait;
 use std::thread::Threads;
+use trans_log::TransLog;
 
 // An empty directory in memory.
 fn empty_dir(alloc: Global) -> Result<MemDir, NoMemory>
@@ -66,10 +68,16 @@ pub fn run_script<R: Threads + Wait + Sync, G: Gate + Sync>(
     sent::<Tasks>();
     sent::<Vec<Option<NodePlace<MemDir>>>>();
     sent::<ClusterState<MemDir>>();
-    let nodes = script.nodes;
-    let cluster = Cluster::start(alloc, empty_dirs(alloc, nodes)?)?;
-    let lines = ClusterLines { alloc, nodes, gate };
-    let left = lane_threads::run_script(rt, alloc, &lines, cluster, script)?;
-    left.ended();
-    Ok(left)
+    sent::<Cluster<MemDir>>();
+    sent::<TransLog<MemDir>>();
+    let setup = Setup {
+        nodes: script.nodes,
+        log: script.log,
+    };
+    let site = Site::start(alloc, empty_dirs(alloc, script.nodes)?)?;
+    let lines = ClusterLines { alloc, setup, gate };
+    let left = lane_threads::run_script(rt, alloc, &lines, site, script)?;
+    let cluster = left.into_cluster();
+    cluster.ended();
+    Ok(cluster)
 }

@@ -1,9 +1,9 @@
 -- What may keep a file back that is carried whole.
-use Rattle.std.proofs.Common.{◌≡◌, Some, Result, Ok, Err, refl, sym, subst}
+use Rattle.std.proofs.Common.{◌≡◌, Some, Result, Ok, Err, refl, subst}
 use Rattle.link_model.specs.declared.fate.Fate.TheVariants.{Whole}
 use Rattle.copy_job.specs.declared.fault.JobFault.{JobFault}
 use Rattle.copy_job.specs.declared.fault.JobFault.TheVariants.{Memory, LinkFailed, Damaged, DirFailed, NameClash}
-use Rattle.copy_job.specs.declared.part.Part.{Part}
+use Rattle.copy_job.specs.declared.copying.Part.{Part}
 use Rattle.copy_job.specs.Copying.{ArrivesByFate}
 
 -- want of memory alone

@@ -1,5 +1,5 @@
 -- What is known of a task stays so, whatever is appended.
-use Rattle.std.proofs.Common.{◌≡◌, false, List, [], ◌∷◌, ◌++◌, Some, ap, ◌∙◌, subst, ℕ}
+use Rattle.std.proofs.Common.{◌≡◌, Bool, List, [], ◌∷◌, ◌++◌, Some, ap, ◌∙◌, subst, ℕ}
 use Rattle.nrt_base.specs.declared.numbers.SegNo.{SegNo}
 use Rattle.disk_model.specs.Disk.{Name}
 use Rattle.seg_reader.specs.Shown.{Shown as Segment}
@@ -30,7 +30,7 @@ carried_stays q bytes (Kept i ∷ more) old is = first_stays (carried_out q (mor
 carried_stays q bytes (Shown e ∷ more) old is = carried_stays q bytes more old is
 carried_stays q bytes (TaskFault e ∷ more) old is = carried_stays q bytes more old is
 
-module _ (lane : ℕ) (old new : Log) (grows : GrowsByOthers false lane old new) where
+module _ {logged : Bool} (lane : ℕ) (old new : Log) (grows : GrowsByOthers logged lane old new) where
   -- a segment that was made of what was handed out
   pub merged_stays : (seg : SegNo) (merged : Merged) → IsMergedOut old seg merged → IsMergedOut new seg merged
   merged_stays seg merged m =

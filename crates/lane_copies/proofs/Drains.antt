@@ -1,5 +1,5 @@
 -- A drain line that does tasks has no entry until its reply.
-use Rattle.std.proofs.Common.{◌≡◌, ℕ, [], Option, ap, ◌∙◌}
+use Rattle.std.proofs.Common.{◌≡◌, ℕ, Bool, [], Option, ap, ◌∙◌}
 use Rattle.std.specs.Prelude.{Result, Ok, Err, IfOk}
 use Rattle.nrt_base.specs.declared.numbers.At.{At}
 use Rattle.history_rules.specs.Lines.{entries_of_line}
@@ -13,7 +13,7 @@ use Rattle.lane_threads.specs.Seats.{log_seen}
 use Rattle.cluster_state.specs.declared.turn.Turn.{Turn}
 use Rattle.cluster_state.specs.declared.turn.Turn.TheVariants.{Work, Done, Busy}
 use Rattle.cluster_merges.specs.TaskCalls.{DrainTurns}
-use Rattle.lane_sections.specs.Given.{IsRepliedAtDone}
+use Rattle.lane_sections.specs.Given.{SiteRun, IsRepliedAtDone}
 use Rattle.lane_sections.specs.Turns.{NeverWaits, IsUnbegunIn, TurnShows, TakesLineTo}
 use Rattle.cluster_state.specs.Run.{Run}
 use Rattle.lane_copies.specs.Taken.{WorksOn}
@@ -28,9 +28,9 @@ on_drain_shows at most old new (Ok Busy) fresh turns replied = ap (λ (l : Log).
 on_drain_shows at most old new (Err e) fresh turns replied = tt
 
 -- tasks that were done for it took no line of its lane on
-pub works_line : {g : Ghosts Run Mark} (lock : HistLock Run Mark) (command : LineCommand) (at : At) (by : Option At) (before after : LaneSeat Run Mark g) → IsUnbegunIn at (log_seen before)
-    → WorksOn lock at.lane.0 by before after → TakesLineTo (IsUnbegunIn at) lock command at before after
-works_line lock command at by before after fresh works =
+pub works_line : {g : Ghosts SiteRun Mark} {logged : Bool} (lock : HistLock SiteRun Mark) (command : LineCommand) (at : At) (by : Option At) (before after : LaneSeat SiteRun Mark g) → IsUnbegunIn at (log_seen before)
+    → WorksOn logged lock at.lane.0 by before after → TakesLineTo logged (IsUnbegunIn at) lock command at before after
+works_line {logged = logged} lock command at by before after fresh works =
     let grows = works.grows in
     record {
       taken = record {
@@ -39,7 +39,7 @@ works_line lock command at by before after fresh works =
           more = grows.more;
           log = grows.log;
           faults = grows.faults;
-          serves = λ lines found early. silent_serves at.lane.0 by lines grows.more (log_seen before) grows.silent;
+          serves = λ lines found early. silent_serves logged at.lane.0 by lines grows.more (log_seen before) grows.silent;
         };
       };
       now = silent_fresh at by (log_seen before) (log_seen after) grows fresh;

@@ -1,5 +1,5 @@
 -- Who did tasks for no line has heard of what others did, and did nothing itself.
-use Rattle.std.proofs.Common.{◌≡◌, ◌==◌, ℕ, ◌<◌, ◌≤◌, Bool, false, List, [], ◌∷◌, ◌++◌, None, refl, ap, ◌∙◌, sym, subst, inl, inr, arith, reverse, cond}
+use Rattle.std.proofs.Common.{◌≡◌, ◌==◌, ℕ, ◌<◌, ◌≤◌, Bool, List, [], ◌∷◌, ◌++◌, None, refl, ap, ◌∙◌, sym, subst, inl, inr, arith, reverse, cond}
 use Rattle.std.specs.Prelude.{Result, Ok, Err, OnOk}
 use Rattle.std.proofs.lemmas.List.{append-nil, reverse-append, reverse-reverse}
 use Rattle.std.proofs.lemmas.List.Elements.{filter-append}
@@ -17,7 +17,7 @@ use Rattle.lane_threads.specs.Seats.{log_seen, IsLaneSeat}
 use Rattle.lane_threads.proofs.SeatLemmas.{lane_named}
 use Rattle.lane_threads.specs.declared.lane.Lane.{Lane}
 use Rattle.lane_threads.specs.Parts.{IsIdleLane, HasHeard}
-use Rattle.cluster_state.specs.Run.{Run}
+use Rattle.lane_sections.specs.Given.{SiteRun}
 use Rattle.lane_copies.specs.Taken.{WorksOn}
 use Rattle.lane_copies.proofs.Silence.{silent_others}
 
@@ -33,15 +33,15 @@ own_more lane first (m ∷ more) log apart =
     ∙ (filter-append (λ (x : Mark). name_of x == lane) (reverse (more ++ log)) (m ∷ [])
     ∙ (ap (λ (xs : List Mark). entries_by name_of lane (reverse (more ++ log)) ++ xs) alone ∙ (append-nil (entries_by name_of lane (reverse (more ++ log))) ∙ own_more lane first more log apart.1)))
 
-module _ {g : Ghosts Run Mark} (names : g.names ≡ name_of) (lock : HistLock Run Mark) where
-  own_is : (lane : ℕ) (s : LaneSeat Run Mark g) → IsLaneSeat false lock lane s → own_entries s ≡ entries_by name_of lane (history_seen s)
+module _ {g : Ghosts SiteRun Mark} {logged : Bool} (names : g.names ≡ name_of) (lock : HistLock SiteRun Mark) where
+  own_is : (lane : ℕ) (s : LaneSeat SiteRun Mark g) → IsLaneSeat logged lock lane s → own_entries s ≡ entries_by name_of lane (history_seen s)
   own_is lane s seat =
       let first : 1 ≤ number_of s = subst (λ (n : ℕ). 1 ≤ n) (sym seat.number) seat.first in
       let positive : 0 < number_of s = omega (arith, first) in
       sym (subst (λ (n : ℕ). entries_by name_of n (history_seen s) ≡ own_entries s) seat.number
       (subst (λ (f : Mark → ℕ). entries_by f (number_of s) (history_seen s) ≡ own_entries s) names (s.recalls positive)))
 
-  own_stays : (lane : ℕ) (before after : LaneSeat Run Mark g) → IsLaneSeat false lock lane before → IsLaneSeat false lock lane after → GrowsByOthers false lane (log_seen before) (log_seen after)
+  own_stays : (lane : ℕ) (before after : LaneSeat SiteRun Mark g) → IsLaneSeat logged lock lane before → IsLaneSeat logged lock lane after → GrowsByOthers logged lane (log_seen before) (log_seen after)
       → own_entries after ≡ own_entries before
   own_stays lane before after b a grows =
       let seen : history_seen after ≡ reverse (grows.more ++ log_seen before) = sym (reverse-reverse (history_seen after)) ∙ ap reverse grows.log in
@@ -49,17 +49,17 @@ module _ {g : Ghosts Run Mark} (names : g.names ≡ name_of) (lock : HistLock Ru
       ∙ (ap (entries_by name_of lane) seen
       ∙ (own_more lane b.first grows.more (log_seen before) grows.apart ∙ (ap (entries_by name_of lane) (reverse-reverse (history_seen before)) ∙ sym (own_is lane before b))))
 
-  works_heard : (before after : Lane Run Mark g) → IsIdleLane false lock before → after.number ≡ before.number → WorksOn lock before.number.0 None before.seat after.seat → HasHeard false lock before after
+  works_heard : (before after : Lane SiteRun Mark g) → IsIdleLane logged lock before → after.number ≡ before.number → WorksOn logged lock before.number.0 None before.seat after.seat → HasHeard logged lock before after
   works_heard before after idle number works =
-      let grows : GrowsByOthers false before.number.0 (log_seen before.seat) (log_seen after.seat) = silent_others before.number.0 None refl (log_seen before.seat) (log_seen after.seat) works.grows in
+      let grows : GrowsByOthers logged before.number.0 (log_seen before.seat) (log_seen after.seat) = silent_others before.number.0 None refl (log_seen before.seat) (log_seen after.seat) works.grows in
       record {
         number = number;
-        idle = subst (λ (n : LaneNo). IsLaneSeat false lock n.0 after.seat) (sym number) works.seat;
+        idle = subst (λ (n : LaneNo). IsLaneSeat logged lock n.0 after.seat) (sym number) works.seat;
         apart = grows;
         own = own_stays before.number.0 before.seat after.seat idle works.seat grows;
       }
 
-  pub on_works_heard : {T E : Type 0} (r : Result T E) (before after : Lane Run Mark g) → IsIdleLane false lock before → after.number ≡ before.number → OnOk r (WorksOn lock before.number.0 None before.seat after.seat)
-      → OnOk r (HasHeard false lock before after)
+  pub on_works_heard : {T E : Type 0} (r : Result T E) (before after : Lane SiteRun Mark g) → IsIdleLane logged lock before → after.number ≡ before.number → OnOk r (WorksOn logged lock before.number.0 None before.seat after.seat)
+      → OnOk r (HasHeard logged lock before after)
   on_works_heard (Ok x) before after idle number works = works_heard before after idle number works
   on_works_heard (Err e) before after idle number works = tt

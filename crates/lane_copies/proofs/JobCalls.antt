@@ -42,7 +42,7 @@ use Rattle.cluster_state.specs.declared.standing.Standing.TheVariants.{Runs, Pas
 use Rattle.cluster_state.specs.declared.turn.Turn.{Turn}
 use Rattle.cluster_state.specs.declared.turn.Turn.TheVariants.{Work, Done, Busy}
 use Rattle.cluster_state.specs.CopyCalls.{is_node_lost, overtaken, standing_of, log_after, stopped_log, StopsTurn, JobGoesOn, JobHasPart, AreFrom, CopyStarts, SettleStarts, SettleGoesOn, SettlesOn}
-use Rattle.lane_sections.specs.Given.{Does, IsReplied, IsRepliedAtDone, IsBegunAtWork}
+use Rattle.lane_sections.specs.Given.{SiteRun, DoesAtSite, IsReplied, IsRepliedAtDone, IsBegunAtWork}
 use Rattle.lane_sections.specs.Turns.{IsUnbegunIn, NeverWaits, TurnShows}
 use Rattle.lane_copies.specs.Jobs.{IsJobStart, IsCopyStart, IsCopyingBy, HasFileOut, IsCopyReplied, BeginsCopy, BeginsNextJob, HasBegunToSettle, IsSettlingOn, LeavesJob, LeavesJobAt}
 
@@ -411,13 +411,13 @@ closed_settle at r left found tells is begun =
     by None is' = refl
     by (Some b) is' = absurd (true≢false (sym (tells.1 (λ none. let some : Some b ≡ None = sym is' ∙ none in cc)) ∙ is))
 
-pub on_settle_starts : {E : Type 0} (size : ℕ) (at : At) (found new : Run) (r : Result (Turn SettleTask) E) → found.nodes ≡ size → OnOk r (Does Settle at found new) → IfOk r (SettleStarts at found new)
-    → IfOk r (IsRepliedAtDone at new) → IfOk r (TurnShows (IsSettlingOn size at) NeverWaits at new)
-on_settle_starts size at found new (Ok turn) nodes does starts replied = settle_starts size at found new turn (does.nodes ∙ nodes) starts replied
+pub on_settle_starts : {E : Type 0} (size : ℕ) (at : At) (found new : SiteRun) (r : Result (Turn SettleTask) E) → found.run.nodes ≡ size → OnOk r (DoesAtSite Settle at found new) → IfOk r (SettleStarts at found.run new.run)
+    → IfOk r (IsRepliedAtDone at new.run) → IfOk r (TurnShows (IsSettlingOn size at) NeverWaits at new.run)
+on_settle_starts size at found new (Ok turn) nodes does starts replied = settle_starts size at found.run new.run turn (does.nodes ∙ nodes) starts replied
 on_settle_starts size at found new (Err x) nodes does starts replied = tt
 
-pub on_next_job : {E : Type 0} (size : ℕ) (at : At) (left : SettleTask) (found new : Run) (r : Result (Turn CopyTask) E) → found.nodes ≡ size → OnOk r (Does Settle at found new)
-    → IfOk r (TurnShows (BeginsNextJob new.nodes at left) (IsSettlingOn new.nodes at left) at new) → IfOk r (TurnShows (BeginsNextJob size at left) (IsSettlingOn size at left) at new)
+pub on_next_job : {E : Type 0} (size : ℕ) (at : At) (left : SettleTask) (found new : SiteRun) (r : Result (Turn CopyTask) E) → found.run.nodes ≡ size → OnOk r (DoesAtSite Settle at found new)
+    → IfOk r (TurnShows (BeginsNextJob new.run.nodes at left) (IsSettlingOn new.run.nodes at left) at new.run) → IfOk r (TurnShows (BeginsNextJob size at left) (IsSettlingOn size at left) at new.run)
 on_next_job size at left found new (Ok turn) nodes does shows =
-    subst (λ (k : ℕ). TurnShows (BeginsNextJob k at left) (IsSettlingOn k at left) at new turn) (does.nodes ∙ nodes) shows
+    subst (λ (k : ℕ). TurnShows (BeginsNextJob k at left) (IsSettlingOn k at left) at new.run turn) (does.nodes ∙ nodes) shows
 on_next_job size at left found new (Err x) nodes does shows = tt

@@ -1,5 +1,5 @@
 -- Entries among which no line of a lane goes on.
-use Rattle.std.proofs.Common.{◌≡◌, ◌≢◌, ℕ, Bool, false, List, [], ◌∷◌, ◌++◌, Option, None, refl, ap, ◌∙◌, sym, subst, inl, inr, arith, if◌then◌else◌}
+use Rattle.std.proofs.Common.{◌≡◌, ◌≢◌, ℕ, Bool, List, [], ◌∷◌, ◌++◌, Option, None, refl, ap, ◌∙◌, sym, subst, inl, inr, arith, if◌then◌else◌}
 use Rattle.std.specs.List.{AllByRecursion}
 use Rattle.std.proofs.lemmas.Bool.Decides.{eqb_tells}
 use Rattle.nrt_base.specs.declared.numbers.At.{At}
@@ -29,7 +29,15 @@ module _ (lane : ℕ) (by : Option At) where
   others_silent (TaskFault e ∷ more) h = (tt, others_silent more h.1)
   others_silent (Kept i ∷ more) h = (λ none. h.0, others_silent more h.1)
 
-  task_silent : (more old : Log) → AddsByTask false (name_by by) more old → AllByRecursion (IsSilent lane by) more
+  -- of a lane that took tasks for no line others alone have gone on
+  silent_apart : by ≡ None → (more : Log) → AllByRecursion (IsSilent lane by) more → NoneOf lane more
+  silent_apart none [] h = tt
+  silent_apart none (Shown e ∷ more) h = (h.0, silent_apart none more h.1)
+  silent_apart none (TaskFault e ∷ more) h = (unnamed lane, silent_apart none more h.1)
+  silent_apart none (Kept i ∷ more) h = (h.0 none, silent_apart none more h.1)
+
+module _ (logged : Bool) (lane : ℕ) (by : Option At) where
+  task_silent : (more old : Log) → AddsByTask logged (name_by by) more old → AllByRecursion (IsSilent lane by) more
   task_silent [] old h = tt
   task_silent (Shown e ∷ more) old h = absurd h
   task_silent (TaskFault e ∷ more) old h = (tt, task_silent more old h.2)
@@ -38,10 +46,11 @@ module _ (lane : ℕ) (by : Option At) where
     task_silent more old h.1,
   )
 
-  pub silent_first : (log : Log) → FaultsFit false log → GrowsSilently lane by log log
+module _ {logged : Bool} (lane : ℕ) (by : Option At) where
+  pub silent_first : (log : Log) → FaultsFit logged log → GrowsSilently logged lane by log log
   silent_first log faults = record { more = []; log = refl; silent = tt; faults = faults }
 
-  pub silent_then : (a b c : Log) → GrowsSilently lane by a b → GrowsSilently lane by b c → GrowsSilently lane by a c
+  pub silent_then : (a b c : Log) → GrowsSilently logged lane by a b → GrowsSilently logged lane by b c → GrowsSilently logged lane by a c
   silent_then a b c h k =
       record {
         more = k.more ++ h.more;
@@ -51,30 +60,23 @@ module _ (lane : ℕ) (by : Option At) where
       }
 
   -- others have gone on, and then a call of a task
-  pub section_silent : (before found new : Log) → GrowsByOthers false lane before found → GoesByTask false (name_by by) found new → GrowsSilently lane by before new
+  pub section_silent : (before found new : Log) → GrowsByOthers logged lane before found → GoesByTask logged (name_by by) found new → GrowsSilently logged lane by before new
   section_silent before found new apart goes =
-      silent_then before found new (record { more = apart.more; log = apart.log; silent = others_silent apart.more apart.apart; faults = apart.faults })
-      (record { more = goes.more; log = goes.log; silent = task_silent goes.more found goes.adds; faults = task_faults false (name_by by) found new apart.faults goes })
+      silent_then before found new (record { more = apart.more; log = apart.log; silent = others_silent lane by apart.more apart.apart; faults = apart.faults })
+      (record { more = goes.more; log = goes.log; silent = task_silent logged lane by goes.more found goes.adds; faults = task_faults logged (name_by by) found new apart.faults goes })
 
-  -- of a lane that took tasks for no line others alone have gone on
-  silent_apart : by ≡ None → (more : Log) → AllByRecursion (IsSilent lane by) more → NoneOf lane more
-  silent_apart none [] h = tt
-  silent_apart none (Shown e ∷ more) h = (h.0, silent_apart none more h.1)
-  silent_apart none (TaskFault e ∷ more) h = (unnamed lane, silent_apart none more h.1)
-  silent_apart none (Kept i ∷ more) h = (h.0 none, silent_apart none more h.1)
+  pub silent_others : by ≡ None → (old new : Log) → GrowsSilently logged lane by old new → GrowsByOthers logged lane old new
+  silent_others none old new h = record { more = h.more; log = h.log; apart = silent_apart lane by none h.more h.silent; faults = h.faults }
 
-  pub silent_others : by ≡ None → (old new : Log) → GrowsSilently lane by old new → GrowsByOthers false lane old new
-  silent_others none old new h = record { more = h.more; log = h.log; apart = silent_apart none h.more h.silent; faults = h.faults }
-
-  -- nothing is owed of these entries, whatever lines the lane has
-  pub silent_serves : (lines : List Line) (more old : Log) → AllByRecursion (IsSilent lane by) more → ServesSince false lane lines more old
-  silent_serves lines [] old h = tt
-  silent_serves lines (Shown e ∷ more) old h = (on_other _ _ (other_lane e.at.lane.0 lane h.0), silent_serves lines more old h.1)
-  silent_serves lines (TaskFault e ∷ more) old h = silent_serves lines more old h.1
-  silent_serves lines (Kept i ∷ more) old h = silent_serves lines more old h.1
+-- nothing is owed of these entries, whatever lines the lane has
+pub silent_serves : (logged : Bool) (lane : ℕ) (by : Option At) (lines : List Line) (more old : Log) → AllByRecursion (IsSilent lane by) more → ServesSince logged lane lines more old
+silent_serves logged lane by lines [] old h = tt
+silent_serves logged lane by lines (Shown e ∷ more) old h = (on_other _ _ (other_lane e.at.lane.0 lane h.0), silent_serves logged lane by lines more old h.1)
+silent_serves logged lane by lines (TaskFault e ∷ more) old h = silent_serves logged lane by lines more old h.1
+silent_serves logged lane by lines (Kept i ∷ more) old h = silent_serves logged lane by lines more old h.1
 
 -- a line of the lane that has no entry stays so
-pub silent_fresh : (at : At) (by : Option At) (old new : Log) → GrowsSilently at.lane.0 by old new → entries_of_line at (printed old) ≡ [] → entries_of_line at (printed new) ≡ []
-silent_fresh at by old new h fresh =
+pub silent_fresh : {logged : Bool} (at : At) (by : Option At) (old new : Log) → GrowsSilently logged at.lane.0 by old new → entries_of_line at (printed old) ≡ [] → entries_of_line at (printed new) ≡ []
+silent_fresh {logged = logged} at by old new h fresh =
     subst (λ (l : Log). entries_of_line at (printed l) ≡ []) (sym h.log)
-    (fresh_since false at.lane.0 [] at h.more old refl refl (silent_serves at.lane.0 by [] h.more old h.silent) (subst (FaultsFit false) h.log h.faults) fresh)
+    (fresh_since logged at.lane.0 [] at h.more old refl refl (silent_serves logged at.lane.0 by [] h.more old h.silent) (subst (FaultsFit logged) h.log h.faults) fresh)

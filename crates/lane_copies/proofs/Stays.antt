@@ -122,7 +122,7 @@ out_apart at n number q (Kept i ∷ more) old h = out_kept at n number q i (file
 
 -- ---- together
 
-module _ (at : At) (old new : Log) (grows : GrowsByOthers false at.lane.0 old new) (stays : LineStays at old new) where
+module _ {logged : Bool} (at : At) (old new : Log) (grows : GrowsByOthers logged at.lane.0 old new) (stays : LineStays at old new) where
   follow : FaultsFollow (grows.more ++ old)
   follow = subst FaultsFollow grows.log grows.faults.follow
 
@@ -177,7 +177,7 @@ alive size at n more old legal before replica survives =
     let ran : is_running n old ≡ true = subst (λ (p : Past). is_running n p ≡ true) (sym since.split) (runs_through size n since.newer start there replica.running few).running in
     record { survives = record { node = same }; version = (runs_through size n more old legal ran (omega arith)).version }
 
-module _ (size : ℕ) (at : At) (old new : Log) (legal : IsLegalPast size (printed new)) (grows : GrowsByOthers false at.lane.0 old new) (stays : LineStays at old new) where
+module _ {logged : Bool} (size : ℕ) (at : At) (old new : Log) (legal : IsLegalPast size (printed new)) (grows : GrowsByOthers logged at.lane.0 old new) (stays : LineStays at old new) where
   alive_here : (n : ℕ) → IsReplica (before_start at (printed old)) n → NodeSurvives (printed new) at n → IsAlive at n (printed old) (printed new)
   alive_here n replica survives =
       let all : printed new ≡ printed grows.more ++ printed old = ap printed grows.log ∙ more_printed grows.more (old) in
@@ -213,7 +213,7 @@ module _ (size : ℕ) (at : At) (old new : Log) (legal : IsLegalPast size (print
         ];
   }
 
-pub still_settling_stays : (size nodes : ℕ) (at : At) (old new : Log) → nodes ≡ size → IsLegalPast nodes (printed new) → GrowsByOthers false at.lane.0 old new → LineStays at old new → (task : SettleTask)
+pub still_settling_stays : {logged : Bool} (size nodes : ℕ) (at : At) (old new : Log) → nodes ≡ size → IsLegalPast nodes (printed new) → GrowsByOthers logged at.lane.0 old new → LineStays at old new → (task : SettleTask)
     → IsStillSettling size at task old → IsStillSettling nodes at task new
 still_settling_stays size nodes at old new same legal grows stays task s line =
     subst (λ (k : ℕ). IsSettling k (printed new) at task) (sym same)

@@ -1,5 +1,5 @@
 -- What a lane knows of the job by which its line copies to a node.
-use Rattle.std.specs.Prelude.{ℕ, ◌≡◌, ◌≢◌, ◌<◌, true, false, ⊤, Option, Some, None}
+use Rattle.std.specs.Prelude.{ℕ, ◌≡◌, ◌≢◌, ◌<◌, true, Bool, ⊤, Option, Some, None}
 use Rattle.nrt_base.specs.declared.numbers.At.{At}
 use Rattle.nrt_base.specs.declared.numbers.NodeNo.{NodeNo}
 use Rattle.nrt_base.specs.declared.numbers.Version.{Version}
@@ -28,6 +28,7 @@ use Rattle.cluster_state.specs.Settles.{IsSettling}
 use Rattle.cluster_state.specs.declared.turn.Turn.{Turn}
 use Rattle.cluster_state.specs.declared.turn.Turn.TheVariants.{Work, Done, Busy}
 use Rattle.cluster_state.specs.CopyCalls.{CopiesFor, AreFrom}
+use Rattle.lane_sections.specs.Given.{SiteRun}
 
 -- a line that has started so copies to the node of the job: as a copy, or as a settle
 abbrev pub IsJobStart : ℕ → Option Event → Type 0
@@ -99,17 +100,17 @@ LeavesJobAt out at task old new (Work w) = LeavesJob at task (out w) old new
 LeavesJobAt out at task old new Done = LeavesJob at task (IsCopyReplied at) old new
 LeavesJobAt out at task old new Busy = ⊥
 
-module _ {g : Ghosts Run Mark} where
+module _ {g : Ghosts SiteRun Mark} where
   -- some of what the line asks for was done by a section of its job, in a cluster of so many nodes, and this is so of the entries that its seat has seen
-  pub record StepsJob (size : ℕ) (lock : HistLock Run Mark) (at : At) (task : CopyTask) (holds : Log → Type 0) (before after : LaneSeat Run Mark g) : Type 0 where
-    pub seat : IsLaneSeat false lock at.lane.0 after
-    pub goes : (command : LineCommand) → CopiesFor command (start_entry at (printed (log_seen before))) → LineGoes false command at (log_seen before) (log_seen after)
+  pub record StepsJob (logged : Bool) (size : ℕ) (lock : HistLock SiteRun Mark) (at : At) (task : CopyTask) (holds : Log → Type 0) (before after : LaneSeat SiteRun Mark g) : Type 0 where
+    pub seat : IsLaneSeat logged lock at.lane.0 after
+    pub goes : (command : LineCommand) → CopiesFor command (start_entry at (printed (log_seen before))) → LineGoes logged command at (log_seen before) (log_seen after)
     pub start : start_entry at (printed (log_seen after)) ≡ start_entry at (printed (log_seen before))
     pub settles : (left : SettleTask) → IsStillSettling size at left (log_seen before) → AreFrom task.node left.left.items → IsStillSettling size at left (log_seen after)
     pub now : holds (log_seen after)
 
   -- work was handed out to the job, of which this is so; or the job has ended
-  abbrev pub TurnsJob : {W : Type 0} → (W → Log → Type 0) → ℕ → HistLock Run Mark → At → CopyTask → LaneSeat Run Mark g → LaneSeat Run Mark g → Turn W → Type 0
-  TurnsJob out size lock at task before after (Work w) = StepsJob size lock at task (out w) before after
-  TurnsJob out size lock at task before after Done = StepsJob size lock at task (IsCopyReplied at) before after
-  TurnsJob out size lock at task before after Busy = ⊥
+  abbrev pub TurnsJob : {W : Type 0} → Bool → (W → Log → Type 0) → ℕ → HistLock SiteRun Mark → At → CopyTask → LaneSeat SiteRun Mark g → LaneSeat SiteRun Mark g → Turn W → Type 0
+  TurnsJob logged out size lock at task before after (Work w) = StepsJob logged size lock at task (out w) before after
+  TurnsJob logged out size lock at task before after Done = StepsJob logged size lock at task (IsCopyReplied at) before after
+  TurnsJob logged out size lock at task before after Busy = ⊥

@@ -1,5 +1,5 @@
 -- What a lane or a worker knows of a task that it took, and what it does with it.
-use Rattle.std.specs.Prelude.{ℕ, ◌≡◌, ◌≢◌, ◌++◌, false, Option, Some, None, ⊤}
+use Rattle.std.specs.Prelude.{ℕ, ◌≡◌, ◌≢◌, ◌++◌, Bool, Option, Some, None, ⊤}
 use Rattle.std.specs.List.{AllByRecursion}
 use Rattle.nrt_base.specs.declared.numbers.At.{At}
 use Rattle.nrt_base.specs.declared.numbers.SegNo.{SegNo}
@@ -21,7 +21,7 @@ use Rattle.lane_threads.specs.Owes.{FaultsFit}
 use Rattle.lane_threads.specs.Seats.{log_seen, IsLaneSeat}
 use Rattle.cluster_state.specs.declared.turn.Turn.{Turn}
 use Rattle.cluster_state.specs.declared.turn.Turn.TheVariants.{Work, Done, Busy}
-use Rattle.cluster_state.specs.Run.{Run}
+use Rattle.lane_sections.specs.Given.{SiteRun}
 use Rattle.cluster_state.specs.Merging.{IsFitKind}
 
 -- the task is what the entries show that was handed out, and is fit to be done
@@ -53,26 +53,26 @@ IsSilent lane by (TaskFault e) = ⊤
 IsSilent lane by (Kept i) = by ≡ None → name_inside i ≢ lane_name lane
 
 -- the history goes on, and no line of the lane goes on in it
-pub record GrowsSilently (lane : ℕ) (by : Option At) (old new : Log) : Type 0 where
+pub record GrowsSilently (logged : Bool) (lane : ℕ) (by : Option At) (old new : Log) : Type 0 where
   pub more : Log
   pub log : new ≡ more ++ old
   pub silent : AllByRecursion (IsSilent lane by) more
-  pub faults : FaultsFit false new
+  pub faults : FaultsFit logged new
 
-module _ {g : Ghosts Run Mark} where
+module _ {g : Ghosts SiteRun Mark} where
   -- The lane or worker of this number did work of tasks that were taken for a line or for none: its seat holds nothing, and none of its
   -- lines has gone on.
-  pub record WorksOn (lock : HistLock Run Mark) (lane : ℕ) (by : Option At) (before after : LaneSeat Run Mark g) : Type 0 where
-    pub seat : IsLaneSeat false lock lane after
-    pub grows : GrowsSilently lane by (log_seen before) (log_seen after)
+  pub record WorksOn (logged : Bool) (lock : HistLock SiteRun Mark) (lane : ℕ) (by : Option At) (before after : LaneSeat SiteRun Mark g) : Type 0 where
+    pub seat : IsLaneSeat logged lock lane after
+    pub grows : GrowsSilently logged lane by (log_seen before) (log_seen after)
 
   -- a task was taken, of which this is known; or none was posted
-  abbrev pub TakesOn : HistLock Run Mark → ℕ → Option At → LaneSeat Run Mark g → LaneSeat Run Mark g → Option Task → Type 0
-  TakesOn lock lane by before after None = WorksOn lock lane by before after
-  TakesOn lock lane by before after (Some task) = WorksOn lock lane by before after × IsTaskIn task (log_seen after) × (task.by ≡ by)
+  abbrev pub TakesOn : Bool → HistLock SiteRun Mark → ℕ → Option At → LaneSeat SiteRun Mark g → LaneSeat SiteRun Mark g → Option Task → Type 0
+  TakesOn logged lock lane by before after None = WorksOn logged lock lane by before after
+  TakesOn logged lock lane by before after (Some task) = WorksOn logged lock lane by before after × IsTaskIn task (log_seen after) × (task.by ≡ by)
 
   -- a file was handed out, of which this is known; or nothing more is to be done, or the task waits
-  abbrev pub HandsOn : HistLock Run Mark → ℕ → Option At → LaneSeat Run Mark g → LaneSeat Run Mark g → Turn FileTask → Type 0
-  HandsOn lock lane by before after (Work file) = WorksOn lock lane by before after × IsCarriedIn file (log_seen after)
-  HandsOn lock lane by before after Done = WorksOn lock lane by before after
-  HandsOn lock lane by before after Busy = WorksOn lock lane by before after
+  abbrev pub HandsOn : Bool → HistLock SiteRun Mark → ℕ → Option At → LaneSeat SiteRun Mark g → LaneSeat SiteRun Mark g → Turn FileTask → Type 0
+  HandsOn logged lock lane by before after (Work file) = WorksOn logged lock lane by before after × IsCarriedIn file (log_seen after)
+  HandsOn logged lock lane by before after Done = WorksOn logged lock lane by before after
+  HandsOn logged lock lane by before after Busy = WorksOn logged lock lane by before after

@@ -8,7 +8,7 @@ ghost use Rattle.history_book.specs.Log.{printed};
 ghost use Rattle.script_serving.specs.declared.script.LineCommand.{LineCommand};
 ghost use Rattle.script_serving.specs.declared.script.LineCommand.TheVariants.{Settle};
 ghost use Rattle.cluster_state.specs.FilesOut.{file_out};
-ghost use Rattle.lane_sections.specs.Given.{Does};
+ghost use Rattle.lane_sections.specs.Given.{DoesAtSite};
 ghost use Rattle.cluster_state.specs.CopyCalls.{CopiesFor};
 ghost use Rattle.lane_sections.specs.Turns.{TurnShows};
 ghost use Rattle.lane_copies.specs.Jobs.{IsCopyingBy, HasFileOut, LeavesJobAt, IsStillSettling, HasBegunToSettle, BeginsNextJob, IsSettlingOn};
@@ -16,55 +16,55 @@ ghost use Rattle.lane_copies.specs.Jobs.{IsCopyingBy, HasFileOut, LeavesJobAt, I
 use cluster_nodes::{CopyTask, FileTask, SettleTask};
 use copy_job::Part;
 use disk_model::FaultDir;
-use lane_sections::{Cluster, Turn};
+use lane_sections::{Site, Turn};
 use nrt_base::{At, NoMemory};
 use std::alloc::{AllocError, Global};
 
 /// Hands out the next file of a job. That the job has no end is known of each cluster, but not of a value behind a lock.
 pub fn next_file<D: FaultDir + Drop>(
-    cluster: &mut Cluster<D>,
+    site: &mut Site<D>,
     alloc: Global,
     at: At,
     task: &CopyTask,
 ) -> Result<Turn<FileTask>, NoMemory>
-    requires running { cluster.old.ended ≡ false }
-    requires copying { IsCopyingBy at task.now cluster.old.log }
+    requires running { site.old.run.ended ≡ false }
+    requires copying { IsCopyingBy at task.now site.old.run.log }
     ensures ok { IfOk result (LeavesJobAt (HasFileOut at task.now) at task.now
-        cluster.old cluster.new) }
-    ensures err { OnErr result (cluster.new.log ≡ cluster.old.log) }
+        site.old.run site.new.run) }
+    ensures err { OnErr result (site.new.run.log ≡ site.old.run.log) }
     ensures does { (command : LineCommand)
-        → CopiesFor command (start_entry at (printed cluster.old.log))
-        → OnOk result (Does command at cluster.old cluster.new) }
+        → CopiesFor command (start_entry at (printed site.old.run.log))
+        → OnOk result (DoesAtSite command at site.old site.new) }
 {
-    if !cluster.has_job(at.lane) {
+    if !site.has_job(at.lane) {
         return Err(AllocError);
     }
-    cluster.copy_next(alloc, at, task)
+    site.copy_next(alloc, at, task)
 }
 
 /// Takes a part of a file that was handed out to a job.
 pub fn take_part<D: FaultDir + Drop>(
-    cluster: &mut Cluster<D>,
+    site: &mut Site<D>,
     at: At,
     task: &CopyTask,
     part: Part,
 ) -> Result<Turn<()>, NoMemory>
-    requires running { cluster.old.ended ≡ false }
-    requires copying { IsCopyingBy at task.now cluster.old.log }
-    requires out { file_out at task.now.node.0 task.now.job part.name cluster.old.log
+    requires running { site.old.run.ended ≡ false }
+    requires copying { IsCopyingBy at task.now site.old.run.log }
+    requires out { file_out at task.now.node.0 task.now.job part.name site.old.run.log
         ≡ Some part.bytes }
     requires meta { IsMetaOf part.bytes part.meta }
     ensures ok { IfOk result (LeavesJobAt (λ taken. IsCopyingBy at task.now) at task.now
-        cluster.old cluster.new) }
-    ensures err { OnErr result (cluster.new.log ≡ cluster.old.log) }
+        site.old.run site.new.run) }
+    ensures err { OnErr result (site.new.run.log ≡ site.old.run.log) }
     ensures does { (command : LineCommand)
-        → CopiesFor command (start_entry at (printed cluster.old.log))
-        → OnOk result (Does command at cluster.old cluster.new) }
+        → CopiesFor command (start_entry at (printed site.old.run.log))
+        → OnOk result (DoesAtSite command at site.old site.new) }
 {
-    if !cluster.has_job(at.lane) {
+    if !site.has_job(at.lane) {
         return Err(AllocError);
     }
-    cluster.copy_arrived(at, task, part)
+    site.copy_arrived(at, task, part)
 }
 
 // A copy of what a settle has left.
@@ -83,24 +83,24 @@ fn copy_of(alloc: Global, left: &SettleTask) -> Result<SettleTask, NoMemory>
 /// Begins the job of the next replica of a settle. Where a job of the settle was lost, the line is done; where it waits, what was left is
 /// left.
 pub fn next_job<D: FaultDir + Drop>(
-    cluster: &mut Cluster<D>,
+    site: &mut Site<D>,
     alloc: Global,
     at: At,
     left: &mut SettleTask,
 ) -> Result<Turn<CopyTask>, NoMemory>
-    requires running { cluster.old.ended ≡ false }
-    requires started { HasBegunToSettle at left.old cluster.old.log }
-    requires settling { IsStillSettling cluster.old.nodes at left.old cluster.old.log }
-    ensures ok { IfOk result (TurnShows (BeginsNextJob cluster.new.nodes at left.new)
-        (IsSettlingOn cluster.new.nodes at left.new) at cluster.new) }
-    ensures err { OnErr result (cluster.new.log ≡ cluster.old.log) }
-    ensures does { OnOk result (Does Settle at cluster.old cluster.new) }
+    requires running { site.old.run.ended ≡ false }
+    requires started { HasBegunToSettle at left.old site.old.run.log }
+    requires settling { IsStillSettling site.old.run.nodes at left.old site.old.run.log }
+    ensures ok { IfOk result (TurnShows (BeginsNextJob site.new.run.nodes at left.new)
+        (IsSettlingOn site.new.run.nodes at left.new) at site.new.run) }
+    ensures err { OnErr result (site.new.run.log ≡ site.old.run.log) }
+    ensures does { OnOk result (DoesAtSite Settle at site.old site.new) }
 {
-    if !cluster.is_open(at) {
+    if !site.is_open(at) {
         return Ok(Turn::Done);
     }
     let mut next = copy_of(alloc, left)?;
-    match cluster.settle_next(alloc, at, &mut next)? {
+    match site.settle_next(alloc, at, &mut next)? {
         Turn::Busy => Ok(Turn::Busy),
         Turn::Done => Ok(Turn::Done),
         Turn::Work(task) => {

@@ -1,6 +1,6 @@
 //! Copies.
 
-ghost use Rattle.std.specs.Prelude.{◌≡◌, [], false, OnOk, IfOk};
+ghost use Rattle.std.specs.Prelude.{◌≡◌, [], OnOk, IfOk};
 ghost use Rattle.history_rules.specs.Nodes.{IsNode};
 ghost use Rattle.history_rules.specs.Lines.{entries_of_line};
 ghost use Rattle.history_book.specs.Log.{printed};
@@ -12,57 +12,49 @@ ghost use Rattle.lane_copies.specs.Jobs.{BeginsCopy};
 use crate::jobs::bring_over;
 use cluster_nodes::CopyTask;
 use disk_model::FaultDir;
-use hist_lock::{HistLock, LaneSeat};
-use lane_sections::{Cluster, Gate, Turn, enter_cluster, give_way};
-use lane_threads::{Halt, leave};
+use hist_lock::LaneSeat;
+use lane_sections::{Gate, Lanes, Site, Turn, enter_site, give_way};
+use lane_threads::leave;
 use nrt_base::{At, NoMemory, NodeNo};
-use std::alloc::Global;
 use std::sync::Wait;
 
 // Starts a copy, where no job for the newest version runs at the node.
-fn start<R: Wait, D: FaultDir + Drop>(
-    rt: &R,
-    alloc: Global,
-    lock: &HistLock<Cluster<D>>,
-    nodes: u8,
-    seat: &mut LaneSeat<Cluster<D>>,
+fn start<R: Wait, D: FaultDir + Drop, G: Gate>(
+    lanes: &Lanes<'_, R, D, G>,
+    seat: &mut LaneSeat<Site<D>>,
     at: At,
     n: NodeNo,
 ) -> Result<Turn<CopyTask>, NoMemory>
-    requires seat { IsLaneSeat false lock.now at.lane.0 seat.old }
+    requires seat { IsLaneSeat lanes.now.setup.log lanes.now.lock.now at.lane.0 seat.old }
     requires fresh { entries_of_line at (printed (log_seen seat.old)) ≡ [] }
-    requires node { IsNode nodes n.0 }
-    ensures { IfOk result (TurnsLine (BeginsCopy at n) (IsUnbegunIn at) lock.now (Copy n) at
-        seat.old seat.new) }
+    requires node { IsNode lanes.now.setup.nodes n.0 }
+    ensures { IfOk result (TurnsLine lanes.now.setup.log (BeginsCopy at n) (IsUnbegunIn at)
+        lanes.now.lock.now (Copy n) at seat.old seat.new) }
 {
-    let mut held = enter_cluster(rt, lock, nodes, at, seat)?;
-    let answer = held.value().copy_start(alloc, at, n);
-    leave(lock, at.lane, seat, held);
+    let mut held = enter_site(lanes, seat, at)?;
+    let answer = held.value().copy_start(lanes.alloc, at, n);
+    leave(lanes.lock, at.lane, seat, held);
     answer
 }
 
 /// Copies the newest point to a node. While a job for it runs there the line waits.
 pub fn copy<R: Wait, D: FaultDir + Drop, G: Gate>(
-    rt: &R,
-    alloc: Global,
-    lock: &HistLock<Cluster<D>>,
-    nodes: u8,
-    gate: &G,
-    halt: &Halt,
-    seat: &mut LaneSeat<Cluster<D>>,
+    lanes: &Lanes<'_, R, D, G>,
+    seat: &mut LaneSeat<Site<D>>,
     at: At,
     n: NodeNo,
 ) -> Result<(), NoMemory>
-    requires seat { IsLaneSeat false lock.now at.lane.0 seat.old }
+    requires seat { IsLaneSeat lanes.now.setup.log lanes.now.lock.now at.lane.0 seat.old }
     requires fresh { entries_of_line at (printed (log_seen seat.old)) ≡ [] }
-    requires node { IsNode nodes n.0 }
-    ensures { OnOk result (EndsItsLine false lock.now (Copy n) at seat.old seat.new) }
+    requires node { IsNode lanes.now.setup.nodes n.0 }
+    ensures { OnOk result (EndsItsLine lanes.now.setup.log lanes.now.lock.now (Copy n) at seat.old
+        seat.new) }
 {
-    for _ in rt.forever() {
-        match start(rt, alloc, lock, nodes, seat, at, n)? {
-            Turn::Busy => give_way(halt)?,
+    for _ in lanes.rt.forever() {
+        match start(lanes, seat, at, n)? {
+            Turn::Busy => give_way(lanes.halt)?,
             Turn::Done => return Ok(()),
-            Turn::Work(task) => return bring_over(rt, alloc, lock, nodes, gate, seat, at, &task),
+            Turn::Work(task) => return bring_over(lanes, seat, at, &task),
         }
     }
     unreachable!()

@@ -4,102 +4,92 @@ ghost use Rattle.std.specs.Prelude.{◌≡◌, [], false, Some, IfOk, OnOk, OnEr
 ghost use Rattle.history_rules.specs.Lines.{entries_of_line};
 ghost use Rattle.history_book.specs.Log.{printed};
 ghost use Rattle.script_serving.specs.declared.script.LineCommand.TheVariants.{Drain};
-ghost use Rattle.lane_sections.specs.Given.{Does};
+ghost use Rattle.lane_sections.specs.Given.{DoesAtSite};
 ghost use Rattle.lane_sections.specs.Turns.{IsUnbegunIn, NeverWaits, TurnShows, TurnsLine};
 ghost use Rattle.lane_threads.specs.Seats.{log_seen, IsLaneSeat, EndsItsLine};
 ghost use Rattle.lane_copies.specs.Taken.{WorksOn};
 
 use crate::tasks::do_first;
 use disk_model::FaultDir;
-use hist_lock::{HistLock, LaneSeat};
-use lane_sections::{Cluster, Gate, Turn, enter_cluster, give_way};
-use lane_threads::{Halt, leave};
+use hist_lock::LaneSeat;
+use lane_sections::{Gate, Lanes, Site, Turn, enter_site, give_way};
+use lane_threads::leave;
 use nrt_base::{At, NoMemory};
-use std::alloc::{AllocError, Global};
+use std::alloc::AllocError;
 use std::sync::Wait;
 
 /// Ends a drain, where enough tasks count for it or none is posted. That no more count than it asks for is known of each cluster, but not
 /// of a value behind a lock.
 pub fn end_drain<D: FaultDir + Drop>(
-    cluster: &mut Cluster<D>,
+    site: &mut Site<D>,
     at: At,
     most: u32,
 ) -> Result<Turn<()>, NoMemory>
-    requires running { cluster.old.ended ≡ false }
-    requires fresh { entries_of_line at (printed cluster.old.log) ≡ [] }
-    ensures ok { IfOk result (TurnShows (λ w. NeverWaits) (IsUnbegunIn at) at cluster.new) }
-    ensures err { OnErr result (cluster.new.log ≡ cluster.old.log) }
-    ensures does { OnOk result (Does (Drain most) at cluster.old cluster.new) }
+    requires running { site.old.run.ended ≡ false }
+    requires fresh { entries_of_line at (printed site.old.run.log) ≡ [] }
+    ensures ok { IfOk result (TurnShows (λ w. NeverWaits) (IsUnbegunIn at) at site.new.run) }
+    ensures err { OnErr result (site.new.run.log ≡ site.old.run.log) }
+    ensures does { OnOk result (DoesAtSite (Drain most) at site.old site.new) }
 {
-    let done = cluster.counted(at);
+    let done = site.counted(at);
     if done > most {
         return Err(AllocError);
     }
-    cluster.drained(at, most)
+    site.drained(at, most)
 }
 
 // Ends a drain, or waits.
-fn end<R: Wait, D: FaultDir + Drop>(
-    rt: &R,
-    lock: &HistLock<Cluster<D>>,
-    nodes: u8,
-    seat: &mut LaneSeat<Cluster<D>>,
+fn end<R: Wait, D: FaultDir + Drop, G: Gate>(
+    lanes: &Lanes<'_, R, D, G>,
+    seat: &mut LaneSeat<Site<D>>,
     at: At,
     most: u32,
 ) -> Result<Turn<()>, NoMemory>
-    requires seat { IsLaneSeat false lock.now at.lane.0 seat.old }
+    requires seat { IsLaneSeat lanes.now.setup.log lanes.now.lock.now at.lane.0 seat.old }
     requires fresh { entries_of_line at (printed (log_seen seat.old)) ≡ [] }
-    ensures { IfOk result (TurnsLine (λ w. NeverWaits) (IsUnbegunIn at) lock.now (Drain most) at
-        seat.old seat.new) }
+    ensures { IfOk result (TurnsLine lanes.now.setup.log (λ w. NeverWaits) (IsUnbegunIn at)
+        lanes.now.lock.now (Drain most) at seat.old seat.new) }
 {
-    let mut held = enter_cluster(rt, lock, nodes, at, seat)?;
+    let mut held = enter_site(lanes, seat, at)?;
     let answer = end_drain(held.value(), at, most);
-    leave(lock, at.lane, seat, held);
+    leave(lanes.lock, at.lane, seat, held);
     answer
 }
 
 // Does the task that was posted first, for a drain line. Where another has taken it the line gives way.
 fn help<R: Wait, D: FaultDir + Drop, G: Gate>(
-    rt: &R,
-    alloc: Global,
-    lock: &HistLock<Cluster<D>>,
-    nodes: u8,
-    gate: &G,
-    halt: &Halt,
-    seat: &mut LaneSeat<Cluster<D>>,
+    lanes: &Lanes<'_, R, D, G>,
+    seat: &mut LaneSeat<Site<D>>,
     at: At,
 ) -> Result<(), NoMemory>
-    requires { IsLaneSeat false lock.now at.lane.0 seat.old }
-    ensures { OnOk result (WorksOn lock.now at.lane.0 (Some at) seat.old seat.new) }
+    requires { IsLaneSeat lanes.now.setup.log lanes.now.lock.now at.lane.0 seat.old }
+    ensures { OnOk result (WorksOn lanes.now.setup.log lanes.now.lock.now at.lane.0 (Some at)
+        seat.old seat.new) }
 {
-    let done = do_first(rt, alloc, lock, nodes, gate, halt, seat, at, Some(at))?;
+    let done = do_first(lanes, seat, at, Some(at))?;
     if done {
         return Ok(());
     }
-    give_way(halt)
+    give_way(lanes.halt)
 }
 
 /// Does tasks of merges, until as many count for the line as it asks for, or none is posted.
 pub fn drain<R: Wait, D: FaultDir + Drop, G: Gate>(
-    rt: &R,
-    alloc: Global,
-    lock: &HistLock<Cluster<D>>,
-    nodes: u8,
-    gate: &G,
-    halt: &Halt,
-    seat: &mut LaneSeat<Cluster<D>>,
+    lanes: &Lanes<'_, R, D, G>,
+    seat: &mut LaneSeat<Site<D>>,
     at: At,
     most: u32,
 ) -> Result<(), NoMemory>
-    requires seat { IsLaneSeat false lock.now at.lane.0 seat.old }
+    requires seat { IsLaneSeat lanes.now.setup.log lanes.now.lock.now at.lane.0 seat.old }
     requires fresh { entries_of_line at (printed (log_seen seat.old)) ≡ [] }
-    ensures { OnOk result (EndsItsLine false lock.now (Drain most) at seat.old seat.new) }
+    ensures { OnOk result (EndsItsLine lanes.now.setup.log lanes.now.lock.now (Drain most) at
+        seat.old seat.new) }
 {
-    for _ in rt.forever() {
-        match end(rt, lock, nodes, seat, at, most)? {
+    for _ in lanes.rt.forever() {
+        match end(lanes, seat, at, most)? {
             Turn::Work(()) => unreachable!(),
             Turn::Done => return Ok(()),
-            Turn::Busy => help(rt, alloc, lock, nodes, gate, halt, seat, at)?,
+            Turn::Busy => help(lanes, seat, at)?,
         }
     }
     unreachable!()

@@ -1,6 +1,6 @@
 //! A job, file after file. Each call is a section, and between them files are carried.
 
-ghost use Rattle.std.specs.Prelude.{◌≡◌, false, Some, OnOk, IfOk};
+ghost use Rattle.std.specs.Prelude.{◌≡◌, Some, OnOk, IfOk};
 ghost use Rattle.copy_state.specs.Meta.{IsMetaOf};
 ghost use Rattle.cluster_state.specs.FilesOut.{file_out};
 ghost use Rattle.lane_threads.specs.Seats.{log_seen, IsLaneSeat};
@@ -11,101 +11,87 @@ use crate::carrying::carry;
 use cluster_nodes::{CopyTask, FileTask};
 use copy_job::Part;
 use disk_model::FaultDir;
-use hist_lock::{HistLock, LaneSeat};
-use lane_sections::{Cluster, Gate, Turn, enter_cluster};
+use hist_lock::LaneSeat;
+use lane_sections::{Gate, Lanes, Site, Turn, enter_site};
 use lane_threads::leave;
 use nrt_base::{At, NoMemory};
-use std::alloc::Global;
 use std::sync::Wait;
 
 // Hands out the next file of a job.
-fn hand_out<R: Wait, D: FaultDir + Drop>(
-    rt: &R,
-    alloc: Global,
-    lock: &HistLock<Cluster<D>>,
-    nodes: u8,
-    seat: &mut LaneSeat<Cluster<D>>,
+fn hand_out<R: Wait, D: FaultDir + Drop, G: Gate>(
+    lanes: &Lanes<'_, R, D, G>,
+    seat: &mut LaneSeat<Site<D>>,
     at: At,
     task: &CopyTask,
 ) -> Result<Turn<FileTask>, NoMemory>
-    requires seat { IsLaneSeat false lock.now at.lane.0 seat.old }
+    requires seat { IsLaneSeat lanes.now.setup.log lanes.now.lock.now at.lane.0 seat.old }
     requires copying { IsCopyingBy at task.now (log_seen seat.old) }
-    ensures { IfOk result (TurnsJob (HasFileOut at task.now) nodes lock.now at task.now
-        seat.old seat.new) }
+    ensures { IfOk result (TurnsJob lanes.now.setup.log (HasFileOut at task.now)
+        lanes.now.setup.nodes lanes.now.lock.now at task.now seat.old seat.new) }
 {
-    let mut held = enter_cluster(rt, lock, nodes, at, seat)?;
-    let answer = next_file(held.value(), alloc, at, task);
-    leave(lock, at.lane, seat, held);
+    let mut held = enter_site(lanes, seat, at)?;
+    let answer = next_file(held.value(), lanes.alloc, at, task);
+    leave(lanes.lock, at.lane, seat, held);
     answer
 }
 
 // Brings a part back to its job.
-fn bring_back<R: Wait, D: FaultDir + Drop>(
-    rt: &R,
-    lock: &HistLock<Cluster<D>>,
-    nodes: u8,
-    seat: &mut LaneSeat<Cluster<D>>,
+fn bring_back<R: Wait, D: FaultDir + Drop, G: Gate>(
+    lanes: &Lanes<'_, R, D, G>,
+    seat: &mut LaneSeat<Site<D>>,
     at: At,
     task: &CopyTask,
     part: Part,
 ) -> Result<Turn<()>, NoMemory>
-    requires seat { IsLaneSeat false lock.now at.lane.0 seat.old }
+    requires seat { IsLaneSeat lanes.now.setup.log lanes.now.lock.now at.lane.0 seat.old }
     requires copying { IsCopyingBy at task.now (log_seen seat.old) }
     requires out { file_out at task.now.node.0 task.now.job part.name (log_seen seat.old)
         ≡ Some part.bytes }
     requires meta { IsMetaOf part.bytes part.meta }
-    ensures { IfOk result (TurnsJob (λ taken. IsCopyingBy at task.now) nodes lock.now at task.now
-        seat.old seat.new) }
+    ensures { IfOk result (TurnsJob lanes.now.setup.log (λ taken. IsCopyingBy at task.now)
+        lanes.now.setup.nodes lanes.now.lock.now at task.now seat.old seat.new) }
 {
-    let mut held = enter_cluster(rt, lock, nodes, at, seat)?;
+    let mut held = enter_site(lanes, seat, at)?;
     let answer = take_part(held.value(), at, task, part);
-    leave(lock, at.lane, seat, held);
+    leave(lanes.lock, at.lane, seat, held);
     answer
 }
 
 // Carries a file that was handed out, and brings it back.
 fn bring_file<R: Wait, D: FaultDir + Drop, G: Gate>(
-    rt: &R,
-    alloc: Global,
-    lock: &HistLock<Cluster<D>>,
-    nodes: u8,
-    gate: &G,
-    seat: &mut LaneSeat<Cluster<D>>,
+    lanes: &Lanes<'_, R, D, G>,
+    seat: &mut LaneSeat<Site<D>>,
     at: At,
     task: &CopyTask,
     file: &FileTask,
 ) -> Result<Turn<()>, NoMemory>
-    requires seat { IsLaneSeat false lock.now at.lane.0 seat.old }
+    requires seat { IsLaneSeat lanes.now.setup.log lanes.now.lock.now at.lane.0 seat.old }
     requires out { HasFileOut at task.now file.now (log_seen seat.old) }
-    ensures { IfOk result (TurnsJob (λ taken. IsCopyingBy at task.now) nodes lock.now at task.now
-        seat.old seat.new) }
+    ensures { IfOk result (TurnsJob lanes.now.setup.log (λ taken. IsCopyingBy at task.now)
+        lanes.now.setup.nodes lanes.now.lock.now at task.now seat.old seat.new) }
 {
-    let part = carry(alloc, gate, at, task.node, file)?;
-    bring_back(rt, lock, nodes, seat, at, task, part)
+    let part = carry(lanes.alloc, lanes.gate, at, task.node, file)?;
+    bring_back(lanes, seat, at, task, part)
 }
 
 /// Brings over what a job lacks, file after file, until it has ended.
 pub fn bring_over<R: Wait, D: FaultDir + Drop, G: Gate>(
-    rt: &R,
-    alloc: Global,
-    lock: &HistLock<Cluster<D>>,
-    nodes: u8,
-    gate: &G,
-    seat: &mut LaneSeat<Cluster<D>>,
+    lanes: &Lanes<'_, R, D, G>,
+    seat: &mut LaneSeat<Site<D>>,
     at: At,
     task: &CopyTask,
 ) -> Result<(), NoMemory>
-    requires seat { IsLaneSeat false lock.now at.lane.0 seat.old }
+    requires seat { IsLaneSeat lanes.now.setup.log lanes.now.lock.now at.lane.0 seat.old }
     requires copying { IsCopyingBy at task.now (log_seen seat.old) }
-    ensures { OnOk result (StepsJob nodes lock.now at task.now (IsCopyReplied at)
-        seat.old seat.new) }
+    ensures { OnOk result (StepsJob lanes.now.setup.log lanes.now.setup.nodes lanes.now.lock.now at
+        task.now (IsCopyReplied at) seat.old seat.new) }
 {
-    for _ in rt.forever() {
-        match hand_out(rt, alloc, lock, nodes, seat, at, task)? {
+    for _ in lanes.rt.forever() {
+        match hand_out(lanes, seat, at, task)? {
             Turn::Busy => unreachable!(),
             Turn::Done => return Ok(()),
             Turn::Work(file) => {
-                match bring_file(rt, alloc, lock, nodes, gate, seat, at, task, &file)? {
+                match bring_file(lanes, seat, at, task, &file)? {
                     Turn::Busy => unreachable!(),
                     Turn::Done => return Ok(()),
                     Turn::Work(()) => {}

@@ -1,6 +1,6 @@
 //! Copies of merged segments, file after file. Each call is a section, and between them files are carried.
 
-ghost use Rattle.std.specs.Prelude.{◌≡◌, false, Some, IfOk, OnOk};
+ghost use Rattle.std.specs.Prelude.{◌≡◌, Some, IfOk, OnOk};
 ghost use Rattle.copy_state.specs.Meta.{IsMetaOf};
 ghost use Rattle.history_rules.specs.Nodes.{IsNode};
 ghost use Rattle.merge_tasks.specs.TaskLog.{carried_out};
@@ -11,114 +11,103 @@ use crate::carrying::carry;
 use cluster_nodes::FileTask;
 use copy_job::Part;
 use disk_model::FaultDir;
-use hist_lock::{HistLock, LaneSeat};
-use lane_sections::{Cluster, Gate, Turn, enter_cluster, give_way};
-use lane_threads::{Halt, leave};
+use hist_lock::LaneSeat;
+use lane_sections::{Gate, Lanes, Site, Turn, enter_site, give_way};
+use lane_threads::leave;
 use merge_tasks::{Sent, Task};
 use nrt_base::{At, NoMemory};
-use std::alloc::Global;
 use std::sync::Wait;
 
 // Hands out the next file of the copy of a task.
-fn hand_out<R: Wait, D: FaultDir + Drop>(
-    rt: &R,
-    alloc: Global,
-    lock: &HistLock<Cluster<D>>,
-    nodes: u8,
-    seat: &mut LaneSeat<Cluster<D>>,
+fn hand_out<R: Wait, D: FaultDir + Drop, G: Gate>(
+    lanes: &Lanes<'_, R, D, G>,
+    seat: &mut LaneSeat<Site<D>>,
     at: At,
     task: &Task,
     copy: Sent,
 ) -> Result<Turn<FileTask>, NoMemory>
-    requires seat { IsLaneSeat false lock.now at.lane.0 seat.old }
+    requires seat { IsLaneSeat lanes.now.setup.log lanes.now.lock.now at.lane.0 seat.old }
     requires by { IsTakerAt at task.now.by }
-    requires node { IsNode nodes copy.node.0 }
-    ensures { IfOk result (HandsOn lock.now at.lane.0 task.now.by seat.old seat.new) }
+    requires node { IsNode lanes.now.setup.nodes copy.node.0 }
+    ensures { IfOk result (HandsOn lanes.now.setup.log lanes.now.lock.now at.lane.0 task.now.by
+        seat.old seat.new) }
 {
-    let mut held = enter_cluster(rt, lock, nodes, at, seat)?;
-    let answer = held.value().precopy_next(alloc, task, copy);
-    leave(lock, at.lane, seat, held);
+    let mut held = enter_site(lanes, seat, at)?;
+    let answer = held.value().precopy_next(lanes.alloc, task, copy);
+    leave(lanes.lock, at.lane, seat, held);
     answer
 }
 
 // Brings a part back to the copy of a task.
-fn bring_back<R: Wait, D: FaultDir + Drop>(
-    rt: &R,
-    lock: &HistLock<Cluster<D>>,
-    nodes: u8,
-    seat: &mut LaneSeat<Cluster<D>>,
+fn bring_back<R: Wait, D: FaultDir + Drop, G: Gate>(
+    lanes: &Lanes<'_, R, D, G>,
+    seat: &mut LaneSeat<Site<D>>,
     at: At,
     task: &Task,
     copy: Sent,
     part: Part,
 ) -> Result<Turn<()>, NoMemory>
-    requires seat { IsLaneSeat false lock.now at.lane.0 seat.old }
+    requires seat { IsLaneSeat lanes.now.setup.log lanes.now.lock.now at.lane.0 seat.old }
     requires by { IsTakerAt at task.now.by }
-    requires node { IsNode nodes copy.node.0 }
+    requires node { IsNode lanes.now.setup.nodes copy.node.0 }
     requires out { carried_out part.name (log_seen seat.old) ≡ Some part.bytes }
     requires meta { IsMetaOf part.bytes part.meta }
-    ensures { OnOk result (WorksOn lock.now at.lane.0 task.now.by seat.old seat.new) }
+    ensures { OnOk result (WorksOn lanes.now.setup.log lanes.now.lock.now at.lane.0 task.now.by
+        seat.old seat.new) }
 {
-    let mut held = enter_cluster(rt, lock, nodes, at, seat)?;
+    let mut held = enter_site(lanes, seat, at)?;
     let answer = held.value().precopy_arrived(task, copy, part);
-    leave(lock, at.lane, seat, held);
+    leave(lanes.lock, at.lane, seat, held);
     answer
 }
 
 // Carries a file that was handed out, and brings it back.
 fn bring_file<R: Wait, D: FaultDir + Drop, G: Gate>(
-    rt: &R,
-    alloc: Global,
-    lock: &HistLock<Cluster<D>>,
-    nodes: u8,
-    gate: &G,
-    seat: &mut LaneSeat<Cluster<D>>,
+    lanes: &Lanes<'_, R, D, G>,
+    seat: &mut LaneSeat<Site<D>>,
     at: At,
     task: &Task,
     copy: Sent,
     file: &FileTask,
 ) -> Result<Turn<()>, NoMemory>
-    requires seat { IsLaneSeat false lock.now at.lane.0 seat.old }
+    requires seat { IsLaneSeat lanes.now.setup.log lanes.now.lock.now at.lane.0 seat.old }
     requires by { IsTakerAt at task.now.by }
-    requires node { IsNode nodes copy.node.0 }
+    requires node { IsNode lanes.now.setup.nodes copy.node.0 }
     requires out { IsCarriedIn file.now (log_seen seat.old) }
-    ensures { OnOk result (WorksOn lock.now at.lane.0 task.now.by seat.old seat.new) }
+    ensures { OnOk result (WorksOn lanes.now.setup.log lanes.now.lock.now at.lane.0 task.now.by
+        seat.old seat.new) }
 {
     let line = At {
         lane: at.lane,
         line: task.line,
     };
-    let part = carry(alloc, gate, line, copy.node, file)?;
-    bring_back(rt, lock, nodes, seat, at, task, copy, part)
+    let part = carry(lanes.alloc, lanes.gate, line, copy.node, file)?;
+    bring_back(lanes, seat, at, task, copy, part)
 }
 
 /// Copies the files of a merged segment to a node, until the task has ended. Its end may post the task to cut over.
 pub fn copy_over<R: Wait, D: FaultDir + Drop, G: Gate>(
-    rt: &R,
-    alloc: Global,
-    lock: &HistLock<Cluster<D>>,
-    nodes: u8,
-    gate: &G,
-    halt: &Halt,
-    seat: &mut LaneSeat<Cluster<D>>,
+    lanes: &Lanes<'_, R, D, G>,
+    seat: &mut LaneSeat<Site<D>>,
     at: At,
     task: &Task,
     copy: Sent,
 ) -> Result<(), NoMemory>
-    requires seat { IsLaneSeat false lock.now at.lane.0 seat.old }
+    requires seat { IsLaneSeat lanes.now.setup.log lanes.now.lock.now at.lane.0 seat.old }
     requires by { IsTakerAt at task.now.by }
-    requires node { IsNode nodes copy.node.0 }
-    ensures { OnOk result (WorksOn lock.now at.lane.0 task.now.by seat.old seat.new) }
+    requires node { IsNode lanes.now.setup.nodes copy.node.0 }
+    ensures { OnOk result (WorksOn lanes.now.setup.log lanes.now.lock.now at.lane.0 task.now.by
+        seat.old seat.new) }
 {
-    for _ in rt.forever() {
-        match hand_out(rt, alloc, lock, nodes, seat, at, task, copy)? {
-            Turn::Busy => give_way(halt)?,
+    for _ in lanes.rt.forever() {
+        match hand_out(lanes, seat, at, task, copy)? {
+            Turn::Busy => give_way(lanes.halt)?,
             Turn::Done => {
-                halt.stir();
+                lanes.halt.stir();
                 return Ok(());
             }
             Turn::Work(file) => {
-                bring_file(rt, alloc, lock, nodes, gate, seat, at, task, copy, &file)?;
+                bring_file(lanes, seat, at, task, copy, &file)?;
             }
         }
     }

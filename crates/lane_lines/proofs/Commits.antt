@@ -1,5 +1,5 @@
 -- What the calls of a commit show of its line.
-use Rattle.std.proofs.Common.{◌≡◌, [], false, Some, ap, ◌∙◌, sym, subst}
+use Rattle.std.proofs.Common.{◌≡◌, [], Bool, Some, ap, ◌∙◌, sym, subst}
 use Rattle.std.specs.Prelude.{Result, OnOk}
 use Rattle.nrt_base.specs.declared.numbers.At.{At}
 use Rattle.nrt_base.specs.declared.numbers.NodeNo.{NodeNo}
@@ -18,6 +18,7 @@ use Rattle.cluster_state.specs.declared.turn.Turn.{Turn}
 use Rattle.cluster_state.specs.declared.turn.Turn.TheVariants.{Work, Done, Busy}
 use Rattle.cluster_state.specs.LifeCalls.{CommitStarts, CommitSteps}
 use Rattle.cluster_core.specs.Doing.{IsRepliedAtDone, IsBegunAtWork}
+use Rattle.lane_sections.specs.Given.{SiteRun}
 use Rattle.lane_sections.specs.Turns.{IsUnbegunIn, NeverWaits, TurnShows}
 use Rattle.lane_lines.specs.Commits.{HasBegunCommit, IsCommitting}
 
@@ -35,6 +36,6 @@ step_shows at task old new Done begun steps replied = replied
 step_shows at task old new Busy begun steps replied = absurd steps
 
 -- the node of what was handed out is the one that the line commits
-pub on_node : {T E : Type 0} {g : Ghosts Run Mark} (lock : HistLock Run Mark) (at : At) (m n : NodeNo) (r : Result T E) (before after : LaneSeat Run Mark g) → m ≡ n
-    → OnOk r (EndsItsLine false lock (Commit m) at before after) → OnOk r (EndsItsLine false lock (Commit n) at before after)
-on_node lock at m n r before after is ends = subst (λ (k : NodeNo). OnOk r (EndsItsLine false lock (Commit k) at before after)) is ends
+pub on_node : {T E : Type 0} {g : Ghosts SiteRun Mark} (logged : Bool) (lock : HistLock SiteRun Mark) (at : At) (m n : NodeNo) (r : Result T E) (before after : LaneSeat SiteRun Mark g) → m ≡ n
+    → OnOk r (EndsItsLine logged lock (Commit m) at before after) → OnOk r (EndsItsLine logged lock (Commit n) at before after)
+on_node logged lock at m n r before after is ends = subst (λ (k : NodeNo). OnOk r (EndsItsLine logged lock (Commit k) at before after)) is ends

@@ -1,5 +1,5 @@
 -- A publish that was handed out stays so, whatever others append.
-use Rattle.std.proofs.Common.{◌≡◌, List, [], ◌∷◌, ◌++◌, Bool, false, Some, Option, ap, ◌∙◌, sym, subst, if◌then◌else◌}
+use Rattle.std.proofs.Common.{◌≡◌, List, [], ◌∷◌, ◌++◌, Bool, Some, Option, ap, ◌∙◌, sym, subst, if◌then◌else◌}
 use Rattle.std.specs.Prelude.{IsSome, IsTrue, ◌↔◌}
 use Rattle.std.specs.List.{list_any}
 use Rattle.history_tables.proofs.RowLemmas.{same_at_self}
@@ -49,7 +49,7 @@ out_there at (TaskFault e ∷ more) old h is = out_there at more old h is
 out_there at (Kept i ∷ more) old h is = ap (λ (o : Option Handed). or_older o (handed_by at i)) (out_there at more old h is)
 
 -- work that was made for what was handed out is so behind what others append
-pub flushed_stays : (at : At) (old new : Log) (work : FlushWork) → GrowsByOthers false at.lane.0 old new → LineStays at old new → IsFlushed at old work → IsFlushed at new work
+pub flushed_stays : {logged : Bool} (at : At) (old new : Log) (work : FlushWork) → GrowsByOthers logged at.lane.0 old new → LineStays at old new → IsFlushed at old work → IsFlushed at new work
 flushed_stays at old new work grows stays f =
     record {
       task = f.task;

@@ -1,5 +1,5 @@
 -- A search that was handed out: its version stays as it was, whatever others append.
-use Rattle.std.proofs.Common.{◌≡◌, ◌≤◌, ℕ, false, List, [], ◌++◌, Some, None, Option, refl, ap, ◌∙◌, sym, subst}
+use Rattle.std.proofs.Common.{◌≡◌, ◌≤◌, ℕ, Bool, List, [], ◌++◌, Some, None, Option, refl, ap, ◌∙◌, sym, subst}
 use Rattle.nrt_base.specs.declared.doc.Doc.{Doc}
 use Rattle.nrt_base.specs.declared.numbers.At.{At}
 use Rattle.nrt_base.specs.declared.numbers.NodeNo.{NodeNo}
@@ -22,7 +22,6 @@ use Rattle.history_rules.proofs.PointLemmas.{documents_stay_lem}
 use Rattle.history_book.specs.Log.{Log, printed}
 use Rattle.lane_threads.specs.Walks.{GrowsByOthers, LineStays}
 use Rattle.lane_threads.proofs.StayLemmas.{more_printed}
-use Rattle.script_serving.specs.declared.script.LineCommand.{LineCommand}
 use Rattle.script_serving.specs.declared.script.LineCommand.TheVariants.{Search, Ask}
 use Rattle.cluster_state.specs.Run.{Run}
 use Rattle.cluster_state.specs.State.{ReadsAt}
@@ -116,7 +115,7 @@ scans_stay size more past (Some (Asking n t v)) query answer legal known right =
     right ∙ ap (λ (docs : List Doc). scan_of docs query) (sym (documents_stay_lem size more past v.0 legal known))
 scans_stay size more past (Some e) query answer legal known right = absurd right
 
-pub evaluated_stays : (size : ℕ) (at : At) (old new : Log) (query : Query) (answer : Answer) → IsLegalPast size (printed new) → GrowsByOthers false at.lane.0 old new → LineStays at old new
+pub evaluated_stays : {logged : Bool} (size : ℕ) (at : At) (old new : Log) (query : Query) (answer : Answer) → IsLegalPast size (printed new) → GrowsByOthers logged at.lane.0 old new → LineStays at old new
     → IsEvaluated at query answer old → ScansAt (printed new) (last_of_line at (printed new)) query answer
 evaluated_stays size at old new query answer legal grows stays e =
     let all : printed new ≡ printed grows.more ++ printed old = ap printed grows.log ∙ more_printed grows.more old in
@@ -128,9 +127,3 @@ evaluated_stays size at old new query answer legal grows stays e =
 
 pub any_query : Query
 any_query = All []
-
-pub some_command : (past : Past) (last : Option Event) (query : Query) (answer : Answer) → ScansAt past last query answer → (command : LineCommand) × AsksFor command query last
-some_command past None query answer right = absurd right
-some_command past (Some (Opened n t v)) query answer right = (Search n query, (refl, right.0, refl))
-some_command past (Some (Asking n t v)) query answer right = (Ask t query, (refl, refl))
-some_command past (Some e) query answer right = absurd right

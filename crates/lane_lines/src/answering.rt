@@ -1,6 +1,6 @@
 //! The end of a search.
 
-ghost use Rattle.std.specs.Prelude.{◌≡◌, false, OnOk};
+ghost use Rattle.std.specs.Prelude.{◌≡◌, OnOk};
 ghost use Rattle.history_rules.specs.Lines.{last_of_line};
 ghost use Rattle.history_book.specs.Log.{printed};
 ghost use Rattle.script_serving.specs.declared.script.LineCommand.{LineCommand};
@@ -10,32 +10,29 @@ ghost use Rattle.lane_lines.specs.Reads.{IsEvaluated};
 
 use disk_model::FaultDir;
 use documents::{Answer, Query};
-use hist_lock::{HistLock, LaneSeat};
-use lane_sections::{Cluster, enter_cluster};
+use hist_lock::LaneSeat;
+use lane_sections::{Gate, Lanes, Site, enter_site};
 use lane_threads::leave;
 use nrt_base::{At, NoMemory};
-use std::alloc::Global;
 use std::sync::Wait;
 
 /// Ends a search with its answer.
-pub fn answer_line<R: Wait, D: FaultDir + Drop>(
-    rt: &R,
-    alloc: Global,
-    lock: &HistLock<Cluster<D>>,
-    nodes: u8,
-    seat: &mut LaneSeat<Cluster<D>>,
+pub fn answer_line<R: Wait, D: FaultDir + Drop, G: Gate>(
+    lanes: &Lanes<'_, R, D, G>,
+    seat: &mut LaneSeat<Site<D>>,
     at: At,
     query: &Query,
     answer: Answer,
 ) -> Result<(), NoMemory>
-    requires seat { IsLaneSeat false lock.now at.lane.0 seat.old }
+    requires seat { IsLaneSeat lanes.now.setup.log lanes.now.lock.now at.lane.0 seat.old }
     requires evaluated { IsEvaluated at query.now answer (log_seen seat.old) }
     ensures { (command : LineCommand)
         → AsksFor command query.now (last_of_line at (printed (log_seen seat.old)))
-        → OnOk result (EndsItsLine false lock.now command at seat.old seat.new) }
+        → OnOk result (EndsItsLine lanes.now.setup.log lanes.now.lock.now command at seat.old
+        seat.new) }
 {
-    let mut held = enter_cluster(rt, lock, nodes, at, seat)?;
-    let ended = held.value().answer_end(alloc, at, query, answer);
-    leave(lock, at.lane, seat, held);
+    let mut held = enter_site(lanes, seat, at)?;
+    let ended = held.value().answer_end(lanes.alloc, at, query, answer);
+    leave(lanes.lock, at.lane, seat, held);
     ended
 }

@@ -1,6 +1,6 @@
 //! Commits. Each disk call is a section of its own.
 
-ghost use Rattle.std.specs.Prelude.{◌≡◌, [], false, OnOk, IfOk};
+ghost use Rattle.std.specs.Prelude.{◌≡◌, [], OnOk, IfOk};
 ghost use Rattle.history_rules.specs.Nodes.{IsNode};
 ghost use Rattle.history_rules.specs.Lines.{entries_of_line};
 ghost use Rattle.history_book.specs.Log.{printed};
@@ -11,73 +11,63 @@ ghost use Rattle.lane_lines.specs.Commits.{HasBegunCommit, IsCommitting};
 
 use cluster_nodes::CommitTask;
 use disk_model::FaultDir;
-use hist_lock::{HistLock, LaneSeat};
-use lane_sections::{Cluster, Turn, enter_cluster, give_way};
-use lane_threads::{Halt, leave};
+use hist_lock::LaneSeat;
+use lane_sections::{Gate, Lanes, Site, Turn, enter_site, give_way};
+use lane_threads::leave;
 use nrt_base::{At, NoMemory, NodeNo};
-use std::alloc::Global;
 use std::sync::Wait;
 
 // Starts a commit, where no other line's is in flight at the node.
-fn start<R: Wait, D: FaultDir + Drop>(
-    rt: &R,
-    alloc: Global,
-    lock: &HistLock<Cluster<D>>,
-    nodes: u8,
-    seat: &mut LaneSeat<Cluster<D>>,
+fn start<R: Wait, D: FaultDir + Drop, G: Gate>(
+    lanes: &Lanes<'_, R, D, G>,
+    seat: &mut LaneSeat<Site<D>>,
     at: At,
     n: NodeNo,
 ) -> Result<Turn<CommitTask>, NoMemory>
-    requires seat { IsLaneSeat false lock.now at.lane.0 seat.old }
+    requires seat { IsLaneSeat lanes.now.setup.log lanes.now.lock.now at.lane.0 seat.old }
     requires fresh { entries_of_line at (printed (log_seen seat.old)) ≡ [] }
-    requires node { IsNode nodes n.0 }
-    ensures { IfOk result (TurnsLine (IsCommitting at n) (IsUnbegunIn at) lock.now (Commit n) at
-        seat.old seat.new) }
+    requires node { IsNode lanes.now.setup.nodes n.0 }
+    ensures { IfOk result (TurnsLine lanes.now.setup.log (IsCommitting at n) (IsUnbegunIn at)
+        lanes.now.lock.now (Commit n) at seat.old seat.new) }
 {
-    let mut held = enter_cluster(rt, lock, nodes, at, seat)?;
-    let answer = held.value().commit_start(alloc, at, n);
-    leave(lock, at.lane, seat, held);
+    let mut held = enter_site(lanes, seat, at)?;
+    let answer = held.value().commit_start(lanes.alloc, at, n);
+    leave(lanes.lock, at.lane, seat, held);
     answer
 }
 
 // Makes the next disk call of a commit.
-fn step<R: Wait, D: FaultDir + Drop>(
-    rt: &R,
-    alloc: Global,
-    lock: &HistLock<Cluster<D>>,
-    nodes: u8,
-    seat: &mut LaneSeat<Cluster<D>>,
+fn step<R: Wait, D: FaultDir + Drop, G: Gate>(
+    lanes: &Lanes<'_, R, D, G>,
+    seat: &mut LaneSeat<Site<D>>,
     at: At,
     task: &CommitTask,
 ) -> Result<Turn<()>, NoMemory>
-    requires seat { IsLaneSeat false lock.now at.lane.0 seat.old }
+    requires seat { IsLaneSeat lanes.now.setup.log lanes.now.lock.now at.lane.0 seat.old }
     requires begun { HasBegunCommit at task.now (log_seen seat.old) }
-    ensures { IfOk result (TurnsLine (λ made. HasBegunCommit at task.now) NeverWaits lock.now
-        (Commit task.now.node) at seat.old seat.new) }
+    ensures { IfOk result (TurnsLine lanes.now.setup.log (λ made. HasBegunCommit at task.now)
+        NeverWaits lanes.now.lock.now (Commit task.now.node) at seat.old seat.new) }
 {
-    let mut held = enter_cluster(rt, lock, nodes, at, seat)?;
-    let answer = held.value().commit_step(alloc, at, task);
-    leave(lock, at.lane, seat, held);
+    let mut held = enter_site(lanes, seat, at)?;
+    let answer = held.value().commit_step(lanes.alloc, at, task);
+    leave(lanes.lock, at.lane, seat, held);
     answer
 }
 
 // Makes the disk calls of a commit, until the line has its reply.
-fn finish<R: Wait, D: FaultDir + Drop>(
-    rt: &R,
-    alloc: Global,
-    lock: &HistLock<Cluster<D>>,
-    nodes: u8,
-    seat: &mut LaneSeat<Cluster<D>>,
+fn finish<R: Wait, D: FaultDir + Drop, G: Gate>(
+    lanes: &Lanes<'_, R, D, G>,
+    seat: &mut LaneSeat<Site<D>>,
     at: At,
     task: &CommitTask,
 ) -> Result<(), NoMemory>
-    requires seat { IsLaneSeat false lock.now at.lane.0 seat.old }
+    requires seat { IsLaneSeat lanes.now.setup.log lanes.now.lock.now at.lane.0 seat.old }
     requires begun { HasBegunCommit at task.now (log_seen seat.old) }
-    ensures { OnOk result (EndsItsLine false lock.now (Commit task.now.node) at
-        seat.old seat.new) }
+    ensures { OnOk result (EndsItsLine lanes.now.setup.log lanes.now.lock.now (Commit task.now.node)
+        at seat.old seat.new) }
 {
-    for _ in rt.forever() {
-        match step(rt, alloc, lock, nodes, seat, at, task)? {
+    for _ in lanes.rt.forever() {
+        match step(lanes, seat, at, task)? {
             Turn::Busy => unreachable!(),
             Turn::Done => return Ok(()),
             Turn::Work(()) => {}
@@ -87,26 +77,23 @@ fn finish<R: Wait, D: FaultDir + Drop>(
 }
 
 /// Commits what a node searches. While another line's commit is in flight there the line waits.
-pub fn commit<R: Wait, D: FaultDir + Drop>(
-    rt: &R,
-    alloc: Global,
-    lock: &HistLock<Cluster<D>>,
-    nodes: u8,
-    halt: &Halt,
-    seat: &mut LaneSeat<Cluster<D>>,
+pub fn commit<R: Wait, D: FaultDir + Drop, G: Gate>(
+    lanes: &Lanes<'_, R, D, G>,
+    seat: &mut LaneSeat<Site<D>>,
     at: At,
     n: NodeNo,
 ) -> Result<(), NoMemory>
-    requires seat { IsLaneSeat false lock.now at.lane.0 seat.old }
+    requires seat { IsLaneSeat lanes.now.setup.log lanes.now.lock.now at.lane.0 seat.old }
     requires fresh { entries_of_line at (printed (log_seen seat.old)) ≡ [] }
-    requires node { IsNode nodes n.0 }
-    ensures { OnOk result (EndsItsLine false lock.now (Commit n) at seat.old seat.new) }
+    requires node { IsNode lanes.now.setup.nodes n.0 }
+    ensures { OnOk result (EndsItsLine lanes.now.setup.log lanes.now.lock.now (Commit n) at seat.old
+        seat.new) }
 {
-    for _ in rt.forever() {
-        match start(rt, alloc, lock, nodes, seat, at, n)? {
-            Turn::Busy => give_way(halt)?,
+    for _ in lanes.rt.forever() {
+        match start(lanes, seat, at, n)? {
+            Turn::Busy => give_way(lanes.halt)?,
             Turn::Done => return Ok(()),
-            Turn::Work(task) => return finish(rt, alloc, lock, nodes, seat, at, &task),
+            Turn::Work(task) => return finish(lanes, seat, at, &task),
         }
     }
     unreachable!()

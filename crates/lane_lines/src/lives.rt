@@ -1,6 +1,6 @@
 //! Crashes, reopenings and promotions.
 
-ghost use Rattle.std.specs.Prelude.{◌≡◌, [], false, OnOk};
+ghost use Rattle.std.specs.Prelude.{◌≡◌, [], OnOk};
 ghost use Rattle.history_rules.specs.Nodes.{IsNode};
 ghost use Rattle.history_rules.specs.Lines.{entries_of_line};
 ghost use Rattle.history_book.specs.Log.{printed};
@@ -8,75 +8,68 @@ ghost use Rattle.script_serving.specs.declared.script.LineCommand.TheVariants.{C
 ghost use Rattle.lane_threads.specs.Seats.{log_seen, IsLaneSeat, EndsItsLine};
 
 use disk_model::FaultDir;
-use hist_lock::{HistLock, LaneSeat};
-use lane_sections::{Cluster, enter_cluster};
+use hist_lock::LaneSeat;
+use lane_sections::{Gate, Lanes, Site, enter_site};
 use lane_threads::leave;
 use nrt_base::{At, NoMemory, NodeNo};
 use script_serving::Force;
-use std::alloc::Global;
 use std::sync::Wait;
 
 /// Crashes a node. The number picks what its disk keeps.
-pub fn crash<R: Wait, D: FaultDir + Drop>(
-    rt: &R,
-    alloc: Global,
-    lock: &HistLock<Cluster<D>>,
-    nodes: u8,
-    seat: &mut LaneSeat<Cluster<D>>,
+pub fn crash<R: Wait, D: FaultDir + Drop, G: Gate>(
+    lanes: &Lanes<'_, R, D, G>,
+    seat: &mut LaneSeat<Site<D>>,
     at: At,
     n: NodeNo,
     pick: u64,
 ) -> Result<(), NoMemory>
-    requires seat { IsLaneSeat false lock.now at.lane.0 seat.old }
+    requires seat { IsLaneSeat lanes.now.setup.log lanes.now.lock.now at.lane.0 seat.old }
     requires fresh { entries_of_line at (printed (log_seen seat.old)) ≡ [] }
-    requires node { IsNode nodes n.0 }
-    ensures { OnOk result (EndsItsLine false lock.now (Crash n pick) at seat.old seat.new) }
+    requires node { IsNode lanes.now.setup.nodes n.0 }
+    ensures { OnOk result (EndsItsLine lanes.now.setup.log lanes.now.lock.now (Crash n pick) at
+        seat.old seat.new) }
 {
-    let mut held = enter_cluster(rt, lock, nodes, at, seat)?;
-    let answer = held.value().crash(alloc, at, n, pick);
-    leave(lock, at.lane, seat, held);
+    let mut held = enter_site(lanes, seat, at)?;
+    let answer = held.value().crash(lanes.alloc, at, n, pick);
+    leave(lanes.lock, at.lane, seat, held);
     answer
 }
 
 /// Reopens a node.
-pub fn reopen<R: Wait, D: FaultDir + Drop>(
-    rt: &R,
-    alloc: Global,
-    lock: &HistLock<Cluster<D>>,
-    nodes: u8,
-    seat: &mut LaneSeat<Cluster<D>>,
+pub fn reopen<R: Wait, D: FaultDir + Drop, G: Gate>(
+    lanes: &Lanes<'_, R, D, G>,
+    seat: &mut LaneSeat<Site<D>>,
     at: At,
     n: NodeNo,
 ) -> Result<(), NoMemory>
-    requires seat { IsLaneSeat false lock.now at.lane.0 seat.old }
+    requires seat { IsLaneSeat lanes.now.setup.log lanes.now.lock.now at.lane.0 seat.old }
     requires fresh { entries_of_line at (printed (log_seen seat.old)) ≡ [] }
-    requires node { IsNode nodes n.0 }
-    ensures { OnOk result (EndsItsLine false lock.now (Reopen n) at seat.old seat.new) }
+    requires node { IsNode lanes.now.setup.nodes n.0 }
+    ensures { OnOk result (EndsItsLine lanes.now.setup.log lanes.now.lock.now (Reopen n) at seat.old
+        seat.new) }
 {
-    let mut held = enter_cluster(rt, lock, nodes, at, seat)?;
-    let answer = held.value().reopen(alloc, at, n);
-    leave(lock, at.lane, seat, held);
+    let mut held = enter_site(lanes, seat, at)?;
+    let answer = held.value().reopen(lanes.alloc, at, n);
+    leave(lanes.lock, at.lane, seat, held);
     answer
 }
 
 /// Promotes a node: it begins the next generation. The version that its point is to be above is forced, or the newest.
-pub fn promote<R: Wait, D: FaultDir + Drop>(
-    rt: &R,
-    alloc: Global,
-    lock: &HistLock<Cluster<D>>,
-    nodes: u8,
-    seat: &mut LaneSeat<Cluster<D>>,
+pub fn promote<R: Wait, D: FaultDir + Drop, G: Gate>(
+    lanes: &Lanes<'_, R, D, G>,
+    seat: &mut LaneSeat<Site<D>>,
     at: At,
     n: NodeNo,
     force: Force,
 ) -> Result<(), NoMemory>
-    requires seat { IsLaneSeat false lock.now at.lane.0 seat.old }
+    requires seat { IsLaneSeat lanes.now.setup.log lanes.now.lock.now at.lane.0 seat.old }
     requires fresh { entries_of_line at (printed (log_seen seat.old)) ≡ [] }
-    requires node { IsNode nodes n.0 }
-    ensures { OnOk result (EndsItsLine false lock.now (Promote n force) at seat.old seat.new) }
+    requires node { IsNode lanes.now.setup.nodes n.0 }
+    ensures { OnOk result (EndsItsLine lanes.now.setup.log lanes.now.lock.now (Promote n force) at
+        seat.old seat.new) }
 {
-    let mut held = enter_cluster(rt, lock, nodes, at, seat)?;
-    let answer = held.value().promote(alloc, at, n, force);
-    leave(lock, at.lane, seat, held);
+    let mut held = enter_site(lanes, seat, at)?;
+    let answer = held.value().promote(lanes.alloc, at, n, force);
+    leave(lanes.lock, at.lane, seat, held);
     answer
 }

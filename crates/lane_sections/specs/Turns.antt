@@ -1,5 +1,5 @@
 -- What a section of a line did whose call may hand out work.
-use Rattle.std.specs.Prelude.{◌≡◌, [], false}
+use Rattle.std.specs.Prelude.{◌≡◌, [], Bool}
 use Rattle.nrt_base.specs.declared.numbers.At.{At}
 use Rattle.history_rules.specs.Lines.{entries_of_line}
 use Rattle.history_book.specs.declared.inner.Mark.{Mark}
@@ -13,6 +13,7 @@ use Rattle.cluster_state.specs.declared.turn.Turn.{Turn}
 use Rattle.cluster_state.specs.declared.turn.Turn.TheVariants.{Work, Done, Busy}
 use Rattle.cluster_state.specs.Run.{Run}
 use Rattle.cluster_core.specs.Doing.{IsReplied}
+use Rattle.cluster_site.specs.Sites.{SiteRun}
 
 -- a line that never waits
 abbrev pub NeverWaits : Log → Type 0
@@ -28,14 +29,14 @@ TurnShows out still at new (Work w) = out w new.log
 TurnShows out still at new Done = IsReplied at new
 TurnShows out still at new Busy = still new.log
 
-module _ {g : Ghosts Run Mark} where
+module _ {g : Ghosts SiteRun Mark} where
   -- some of what a line asks for was done, and this is so of the entries that its seat has seen
-  pub record TakesLineTo (holds : Log → Type 0) (lock : HistLock Run Mark) (command : LineCommand) (at : At) (before after : LaneSeat Run Mark g) : Type 0 where
-    pub taken : TakesLineOn false lock command at before after
+  pub record TakesLineTo (logged : Bool) (holds : Log → Type 0) (lock : HistLock SiteRun Mark) (command : LineCommand) (at : At) (before after : LaneSeat SiteRun Mark g) : Type 0 where
+    pub taken : TakesLineOn logged lock command at before after
     pub now : holds (log_seen after)
 
   -- work was handed out to a line, of which this is so; or the line was done; or it waits, and is still so
-  abbrev pub TurnsLine : {W : Type 0} → (W → Log → Type 0) → (Log → Type 0) → HistLock Run Mark → LineCommand → At → LaneSeat Run Mark g → LaneSeat Run Mark g → Turn W → Type 0
-  TurnsLine out still lock command at before after (Work w) = TakesLineTo (out w) lock command at before after
-  TurnsLine out still lock command at before after Done = EndsItsLine false lock command at before after
-  TurnsLine out still lock command at before after Busy = TakesLineTo still lock command at before after
+  abbrev pub TurnsLine : {W : Type 0} → Bool → (W → Log → Type 0) → (Log → Type 0) → HistLock SiteRun Mark → LineCommand → At → LaneSeat SiteRun Mark g → LaneSeat SiteRun Mark g → Turn W → Type 0
+  TurnsLine logged out still lock command at before after (Work w) = TakesLineTo logged (out w) lock command at before after
+  TurnsLine logged out still lock command at before after Done = EndsItsLine logged lock command at before after
+  TurnsLine logged out still lock command at before after Busy = TakesLineTo logged still lock command at before after

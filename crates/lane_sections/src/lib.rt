@@ -1,12 +1,14 @@
-//! The section of the lock that each line of a lane runs in, the gate that a line passes before it works outside the lock, and how
-//! it waits for another lane's.
+//! What the lines of all lanes share, the section of the lock that each runs in, the gate that a line passes before it works outside the
+//! lock, and how it waits for another lane's.
 #![tactic(auto)]
 
 mod gate;
+mod lanes;
 mod section;
 mod waiting;
 
-pub use cluster_core::{Cluster, Turn};
+pub use cluster_site::{Cluster, Site, Turn};
 pub use gate::{Gate, Place};
-pub use section::enter_cluster;
+pub use lanes::Lanes;
+pub use section::enter_site;
 pub use waiting::give_way;

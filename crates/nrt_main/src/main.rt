@@ -143,32 +143,6 @@ fn tell(rt: &HostRuntime, texts: &[String]) -> Option<Status> {
     }
 }
 
-/// Does what the words ask for, and says why not all was done.
-fn run_words(rt: &HostRuntime, texts: &[String]) -> Status {
-    let mut source = StdSource::new(rt.alloc(), rt.stdin());
-    let mut sink = StdSink::new(rt.stdout());
-    let mut kept: Option<Cluster<MemDir>> = None;
-    let status = match words(rt.alloc(), texts) {
-        Ok(words) => run_nrt(
-            rt,
-            rt.alloc(),
-            words.as_slice(),
-            &mut source,
-            &mut sink,
-            &OpenGate,
-            &mut kept,
-        ),
-        Err(_) => Status::Memory,
-    };
-    let seen = Seen {
-        texts,
-        input: source.seen(),
-        is_broken: sink.is_broken(),
-    };
-    let _ = explain(rt, status, &seen);
-    status
-}
-
 /// Why there are no words: one of them is no text, or memory ran out.
 fn without_words(rt: &HostRuntime, error: &io::Error) -> Status {
     let status = match error.kind() {
@@ -180,12 +154,33 @@ fn without_words(rt: &HostRuntime, error: &io::Error) -> Status {
 }
 
 fn main(rt: HostRuntime) -> ExitCode {
-    let status = match texts(&rt) {
-        Ok(texts) => match tell(&rt, texts.as_slice()) {
-            Some(status) => status,
-            None => run_words(&rt, texts.as_slice()),
-        },
-        Err(error) => without_words(&rt, &error),
+    let texts = match texts(&rt) {
+        Ok(texts) => texts,
+        Err(error) => return ExitCode::from(without_words(&rt, &error).number()),
     };
+    if let Some(status) = tell(&rt, texts.as_slice()) {
+        return ExitCode::from(status.number());
+    }
+    let mut source = StdSource::new(rt.alloc(), rt.stdin());
+    let mut sink = StdSink::new(rt.stdout());
+    let mut kept: Option<Cluster<MemDir>> = None;
+    let status = match words(rt.alloc(), texts.as_slice()) {
+        Ok(words) => run_nrt(
+            &rt,
+            rt.alloc(),
+            words.as_slice(),
+            &mut source,
+            &mut sink,
+            &OpenGate,
+            &mut kept,
+        ),
+        Err(_) => Status::Memory,
+    };
+    let seen = Seen {
+        texts: texts.as_slice(),
+        input: source.seen(),
+        is_broken: sink.is_broken(),
+    };
+    let _ = explain(&rt, status, &seen);
     ExitCode::from(status.number())
 }

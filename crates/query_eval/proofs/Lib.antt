@@ -4,6 +4,8 @@ mod RestLemmas
 mod BestLemmas
 mod RowLemmas
 mod SearchLemmas
+mod WordLemmas
+mod NotLemmas
 mod BuildLemmas
 mod PhraseLemmas
 mod PassLemmas

@@ -21,7 +21,7 @@ use Rattle.docs_plain.specs.Documents.{IsRow}
 use Rattle.seg_reader.specs.Shown.{Shown, live_documents_of}
 use Rattle.query_eval.specs.declared.cursor.Cursor.{Cursor}
 use Rattle.query_eval.specs.declared.rank.Ranker.{Ranker}
-use Rattle.query_eval.specs.Advance.{FindsRow}
+use Rattle.query_eval.specs.Advance.{FindsRow, IsFirstFrom}
 use Rattle.query_eval.specs.Best.{hit_with, CountsHit}
 use Rattle.query_eval.specs.Cursor.{answers}
 use Rattle.query_eval.specs.Matching.{AnswersQuery, CountsRow, CountsSegment}
@@ -142,26 +142,24 @@ counted_all query seg before now k = record {
       (subst (λ (xs : List Hit). IsPermutation xs (hits ++ matching_hits query (live_documents_of seg))) (ap (λ (xs : List Hit). k'.0 ++ xs) none ∙ append-nil k'.0) k'.2);
 }
 
--- ---- the rows that a cursor finds
+-- ---- the rows that are found
 
 -- the rows from this one on are answered and ranked by their documents, and those below it are counted
-pub record IsSearching (query : Query) (seg : Shown) (before : Answer) (cursor : Cursor) (ranker : Ranker) (now : Answer) (row : ℕ) : Type 0 where
+pub record IsSearching (query : Query) (seg : Shown) (before : Answer) (answered : ℕ → Bool) (ranks : ℕ → ℕ) (now : Answer) (row : ℕ) : Type 0 where
   pub within : row ≤ length seg.docs
-  pub answered : (x : ℕ) (doc : Doc) → row ≤ x → slice_get seg.docs x ≡ Some doc → answers cursor x ≡ matches_doc query doc
-  pub ranked : (x : ℕ) (doc : Doc) → row ≤ x → slice_get seg.docs x ≡ Some doc → rank_in ranker x ≡ rank_of query (words_of doc.text)
+  pub matches : (x : ℕ) (doc : Doc) → row ≤ x → slice_get seg.docs x ≡ Some doc → answered x ≡ matches_doc query doc
+  pub ranked : (x : ℕ) (doc : Doc) → row ≤ x → slice_get seg.docs x ≡ Some doc → ranks x ≡ rank_of query (words_of doc.text)
   pub counted : IsCounted query seg before now row
 
-pub search_start : (query : Query) (seg : Shown) (before : Answer) (cursor : Cursor) (none ranker : Ranker) → AnswersQuery seg.docs query cursor
-    → AddsRank seg.docs (λ doc. rank_of query (words_of doc.text)) none ranker → ((row : ℕ) → rank_in none row ≡ 0) → IsSearching query seg before cursor ranker before 0
-search_start query seg before cursor none ranker are adds empty = record {
+-- no row is passed at first
+pub search_start : (query : Query) (seg : Shown) (before : Answer) (answered : ℕ → Bool) (ranks : ℕ → ℕ) → ((x : ℕ) (doc : Doc) → slice_get seg.docs x ≡ Some doc → answered x ≡ matches_doc query doc)
+    → ((x : ℕ) (doc : Doc) → slice_get seg.docs x ≡ Some doc → ranks x ≡ rank_of query (words_of doc.text)) → IsSearching query seg before answered ranks before 0
+search_start query seg before answered ranks are adds = record {
   within = omega arith;
-  answered = λ x doc le is. are x doc is;
-  ranked = λ x doc le is. let sum = adds x doc is in let zero = empty x in omega (arith, sum, zero);
+  matches = λ x doc le is. are x doc is;
+  ranked = λ x doc le is. adds x doc is;
   counted = counted_none query seg before;
 }
-
-row_of_docs : (docs : List Doc) (row : ℕ) (doc : Doc) → All IsRow docs → slice_get docs row ≡ Some doc → IsRow doc
-row_of_docs docs row doc rows is = subst IsRow (get_or_from_slice_get docs row doc doc is) (rows row doc (slice_get_within docs row doc is))
 
 by_rank : (docs : List Doc) (live : List Bool) (row rank least : ℕ) (doc : Doc) (now next : Answer) → slice_get docs row ≡ Some doc → least ≡ rank
     → IfSome (slice_get docs row) (λ doc. MatchBool (slice_index_or live row false) (CountsHit (hit_with doc.key least) now next) (next ≡ now))
@@ -171,45 +169,87 @@ by_rank docs live row rank least doc now next is e counts =
     (subst (λ (o : Option Doc). IfSome o (λ doc. MatchBool (slice_index_or live row false) (CountsHit (hit_with doc.key least) now next) (next ≡ now))) is counts)
 
 -- rows up to the one that is found do not match
-none_before : (query : Query) (seg : Shown) (before now : Answer) (cursor : Cursor) (ranker : Ranker) (after : ℕ → Bool) (row at : ℕ) → IsSearching query seg before cursor ranker now row
-    → FindsRow (answers cursor) after row (Some at) → (x : ℕ) (doc : Doc) → row ≤ x → x < at → slice_get seg.docs x ≡ Some doc → matches_doc query doc ≡ false
-none_before query seg before now cursor ranker after row at k m x doc le lt is = sym (k.answered x doc le is) ∙ m.first.2 x le lt
+none_before : (query : Query) (seg : Shown) (before now : Answer) (answered : ℕ → Bool) (ranks : ℕ → ℕ) (row at : ℕ) → IsSearching query seg before answered ranks now row → IsFirstFrom answered row (Some at)
+    → (x : ℕ) (doc : Doc) → row ≤ x → x < at → slice_get seg.docs x ≡ Some doc → matches_doc query doc ≡ false
+none_before query seg before now answered ranks row at k first x doc le lt is = sym (k.matches x doc le is) ∙ first.2 x le lt
 
--- a row was found and counted
-pub search_step : (query : Query) (seg : Shown) (before now next : Answer) (cursor after : Cursor) (ranker moved : Ranker) (row at : ℕ) → IsTrue (is_well_formed query) → All IsRow seg.docs
-    → IsSearching query seg before cursor ranker now row → FindsRow (answers cursor) (answers after) row (Some at) → at < length seg.docs
-    → CountsRow seg at (min (rank_in ranker at) (2 ^ 32 - 1)) now next → KeepsRanks at ranker moved → IsSearching query seg before after moved next (at + 1)
-search_step query seg before now next cursor after ranker moved row at formed rows k m lt counts keeps = elim (slice_get_cases seg.docs at).1 [
+-- a row was found and counted; those behind it are answered and ranked as before
+pub search_step : (query : Query) (seg : Shown) (before now next : Answer) (answered after : ℕ → Bool) (ranks moved : ℕ → ℕ) (row at rank : ℕ) → IsSearching query seg before answered ranks now row
+    → IsFirstFrom answered row (Some at) → at < length seg.docs → ((x : ℕ) → at < x → after x ≡ answered x) → ((x : ℕ) → at < x → moved x ≡ ranks x) → rank ≡ ranks at → CountsRow seg at rank now next
+    → IsSearching query seg before after moved next (at + 1)
+search_step query seg before now next answered after ranks moved row at rank k first lt stays keeps here counts = elim (slice_get_cases seg.docs at).1 [
   | inl there ↦
       let doc = there.0 in
       let is : slice_get seg.docs at ≡ Some doc = there.2 in
-      let from : row ≤ at = m.first.0 in
-      let has : matches_doc query doc ≡ true = sym (k.answered at doc from is) ∙ m.first.1 in
-      let rank = k.ranked at doc from is in
-      let low = rank_is_low query doc.text formed (row_of_docs seg.docs at doc rows is).text in
-      let least : min (rank_in ranker at) (2 ^ 32 - 1) ≡ rank_of query (words_of doc.text) = omega (arith, rank, low) in
-      let here = counted_skip query seg before now row at k.counted from (omega (arith, lt)) (none_before query seg before now cursor ranker (answers after) row at k m) in
+      let from : row ≤ at = first.0 in
+      let has : matches_doc query doc ≡ true = sym (k.matches at doc from is) ∙ first.1 in
+      let passed = counted_skip query seg before now row at k.counted from (omega (arith, lt)) (none_before query seg before now answered ranks row at k first) in
       let one : suc at ≡ at + 1 = omega arith in
       record {
         within = omega (arith, lt);
-        answered = λ x doc' le is'. m.stays x (omega (arith, from, le)) ∙ k.answered x doc' (omega (arith, from, le)) is';
+        matches = λ x doc' le is'. stays x (omega (arith, le)) ∙ k.matches x doc' (omega (arith, from, le)) is';
         ranked = λ x doc' le is'. keeps x (omega (arith, le)) ∙ k.ranked x doc' (omega (arith, from, le)) is';
         counted = subst (λ (n : ℕ). IsCounted query seg before next n) one
-            (counted_row query seg before now next at doc here is has (by_rank seg.docs seg.live at (rank_of query (words_of doc.text)) (min (rank_in ranker at) (2 ^ 32 - 1)) doc now next is least counts));
+            (counted_row query seg before now next at doc passed is has (by_rank seg.docs seg.live at (rank_of query (words_of doc.text)) rank doc now next is (here ∙ k.ranked at doc from is) counts));
       }
   | inr past ↦ absurd (let le = past.0 in omega (arith, le, lt))
 ]
 
--- the row that was found is beyond the segment's
-pub search_beyond : (query : Query) (seg : Shown) (before now : Answer) (cursor : Cursor) (ranker : Ranker) (after : ℕ → Bool) (row at : ℕ) → IsSearching query seg before cursor ranker now row
-    → FindsRow (answers cursor) after row (Some at) → length seg.docs ≤ at → CountsSegment query seg before now
-search_beyond query seg before now cursor ranker after row at k m ge =
-    counted_all query seg before now (counted_skip query seg before now row (length seg.docs) k.counted k.within (omega arith)
-    (λ x doc le lt is. none_before query seg before now cursor ranker after row at k m x doc le (omega (arith, lt, ge)) is))
+-- a row that is not answered is passed
+pub search_skip : (query : Query) (seg : Shown) (before now : Answer) (answered : ℕ → Bool) (ranks : ℕ → ℕ) (row : ℕ) → IsSearching query seg before answered ranks now row → row < length seg.docs → answered row ≡ false
+    → IsSearching query seg before answered ranks now (row + 1)
+search_skip query seg before now answered ranks row k lt none = record {
+  within = omega (arith, lt);
+  matches = λ x doc le is. k.matches x doc (omega (arith, le)) is;
+  ranked = λ x doc le is. k.ranked x doc (omega (arith, le)) is;
+  counted = counted_skip query seg before now row (row + 1) k.counted (omega arith) (omega (arith, lt))
+      (λ x doc le up is. let at : row ≡ x = omega (arith, le, up) in sym (k.matches x doc le is) ∙ ap answered (sym at) ∙ none);
+}
 
 -- no row is left
-pub search_none : (query : Query) (seg : Shown) (before now : Answer) (cursor : Cursor) (ranker : Ranker) (after : ℕ → Bool) (row : ℕ) → IsSearching query seg before cursor ranker now row
-    → FindsRow (answers cursor) after row None → length seg.docs < 2 ^ 32 → CountsSegment query seg before now
-search_none query seg before now cursor ranker after row k m fits =
+pub search_none : (query : Query) (seg : Shown) (before now : Answer) (answered : ℕ → Bool) (ranks : ℕ → ℕ) (row : ℕ) → IsSearching query seg before answered ranks now row
+    → ((x : ℕ) → row ≤ x → x < length seg.docs → answered x ≡ false) → CountsSegment query seg before now
+search_none query seg before now answered ranks row k none =
     counted_all query seg before now (counted_skip query seg before now row (length seg.docs) k.counted k.within (omega arith)
-    (λ x doc le lt is. sym (k.answered x doc le is) ∙ m.first x le (omega (arith, lt, fits))))
+    (λ x doc le lt is. sym (k.matches x doc le is) ∙ none x le lt))
+
+-- ---- by a cursor and the words that are counted
+
+pub cursor_start : (query : Query) (seg : Shown) (before : Answer) (cursor : Cursor) (none ranker : Ranker) → AnswersQuery seg.docs query cursor
+    → AddsRank seg.docs (λ doc. rank_of query (words_of doc.text)) none ranker → ((row : ℕ) → rank_in none row ≡ 0) → IsSearching query seg before (answers cursor) (rank_in ranker) before 0
+cursor_start query seg before cursor none ranker are adds empty =
+    search_start query seg before (answers cursor) (rank_in ranker) are (λ x doc is. let sum = adds x doc is in let zero = empty x in omega (arith, sum, zero))
+
+row_of_docs : (docs : List Doc) (row : ℕ) (doc : Doc) → All IsRow docs → slice_get docs row ≡ Some doc → IsRow doc
+row_of_docs docs row doc rows is = subst IsRow (get_or_from_slice_get docs row doc doc is) (rows row doc (slice_get_within docs row doc is))
+
+-- 32 bits tell the rank of a row that a cursor finds
+cursor_rank : (query : Query) (seg : Shown) (before now : Answer) (answered : ℕ → Bool) (ranker : Ranker) (row at : ℕ) → IsTrue (is_well_formed query) → All IsRow seg.docs
+    → IsSearching query seg before answered (rank_in ranker) now row → row ≤ at → at < length seg.docs → min (rank_in ranker at) (2 ^ 32 - 1) ≡ rank_in ranker at
+cursor_rank query seg before now answered ranker row at formed rows k from lt = elim (slice_get_cases seg.docs at).1 [
+  | inl there ↦
+      let rank = k.ranked at there.0 from there.2 in
+      let low = rank_is_low query there.0.text formed (row_of_docs seg.docs at there.0 rows there.2).text in
+      omega (arith, rank, low)
+  | inr past ↦ absurd (let le = past.0 in omega (arith, le, lt))
+]
+
+pub cursor_step : (query : Query) (seg : Shown) (before now next : Answer) (cursor after : Cursor) (ranker moved : Ranker) (row at : ℕ) → IsTrue (is_well_formed query) → All IsRow seg.docs
+    → IsSearching query seg before (answers cursor) (rank_in ranker) now row → FindsRow (answers cursor) (answers after) row (Some at) → at < length seg.docs
+    → CountsRow seg at (min (rank_in ranker at) (2 ^ 32 - 1)) now next → KeepsRanks at ranker moved → IsSearching query seg before (answers after) (rank_in moved) next (at + 1)
+cursor_step query seg before now next cursor after ranker moved row at formed rows k m lt counts keeps =
+    let from : row ≤ at = m.first.0 in
+    search_step query seg before now next (answers cursor) (answers after) (rank_in ranker) (rank_in moved) row at (min (rank_in ranker at) (2 ^ 32 - 1)) k m.first lt
+    (λ x up. m.stays x (omega (arith, from, up))) (λ x up. keeps x (omega (arith, up))) (cursor_rank query seg before now (answers cursor) ranker row at formed rows k from lt) counts
+
+-- the row that was found is beyond the segment's
+pub cursor_beyond : (query : Query) (seg : Shown) (before now : Answer) (cursor : Cursor) (ranker : Ranker) (after : ℕ → Bool) (row at : ℕ) → IsSearching query seg before (answers cursor) (rank_in ranker) now row
+    → FindsRow (answers cursor) after row (Some at) → length seg.docs ≤ at → CountsSegment query seg before now
+cursor_beyond query seg before now cursor ranker after row at k m ge =
+    search_none query seg before now (answers cursor) (rank_in ranker) row k (λ x le lt. m.first.2 x le (omega (arith, lt, ge)))
+
+-- none was found
+pub cursor_none : (query : Query) (seg : Shown) (before now : Answer) (cursor : Cursor) (ranker : Ranker) (after : ℕ → Bool) (row : ℕ) → IsSearching query seg before (answers cursor) (rank_in ranker) now row
+    → FindsRow (answers cursor) after row None → length seg.docs < 2 ^ 32 → CountsSegment query seg before now
+cursor_none query seg before now cursor ranker after row k m fits =
+    search_none query seg before now (answers cursor) (rank_in ranker) row k (λ x le lt. m.first x le (omega (arith, lt, fits)))

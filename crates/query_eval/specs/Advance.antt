@@ -16,6 +16,14 @@ pub record FindsRow (old new : ℕ → Bool) (row : ℕ) (found : Option ℕ) : 
   pub first : IsFirstFrom old row found
   pub stays : StaysFrom row old new
 
+-- the rows from this one up to the end are not answered; the end is, where it is below a number; the rows from this one on stay
+pub record IsFreeRun (old new : ℕ → Bool) (row rows end : ℕ) : Type 0 where
+  pub from : row ≤ end
+  pub within : end ≤ rows
+  pub free : (x : ℕ) → row ≤ x → x < end → old x ≡ false
+  pub taken : end < rows → old end ≡ true
+  pub stays : StaysFrom row old new
+
 -- the rows that are answered from the least on
 abbrev pub from_least : (least : ℕ) → (ℕ → Bool) → ℕ → Bool
 from_least least answered row = nat_le least row && answered row

@@ -1,5 +1,6 @@
 pub mod Advance
 pub mod Places
+pub mod Hits
 pub mod Phrases
 pub mod Cursor
 pub mod Ranks

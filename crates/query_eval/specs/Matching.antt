@@ -1,5 +1,5 @@
 -- The documents of segments that a query matches, and their hits.
-use Rattle.std.specs.Prelude.{◌≡◌, ℕ, ◌+◌, ◌≤◌, Bool, MatchBool, IfSome, List, ◌++◌, length, Some, slice_get, slice_index_or, false}
+use Rattle.std.specs.Prelude.{◌≡◌, ℕ, zero, suc, ◌+◌, ◌≤◌, Bool, MatchBool, IfSome, List, ◌++◌, length, Some, slice_get, slice_index_or, false}
 use Rattle.std.specs.List.{sum_by, list_any, list_all}
 use Rattle.nrt_base.specs.declared.doc.Doc.{Doc}
 use Rattle.documents.specs.declared.answer.Answer.{Answer}
@@ -51,6 +51,11 @@ CountsRow seg row rank old new =
     IfSome (slice_get seg.docs row)
     (λ doc. MatchBool (slice_index_or seg.live row false)
     (CountsHit (hit_with doc.key rank) old new) (new ≡ old))
+
+-- so many rows from this one on were counted in turn, each with the rank 0 where it is live
+abbrev pub CountsRun : Shown → (row rows : ℕ) → (old new : Answer) → Type 0
+CountsRun seg row zero old new = new ≡ old
+CountsRun seg row (suc n) old new = (mid : Answer) × CountsRun seg row n old mid × CountsRow seg (row + n) 0 mid new
 
 -- the live rows of a segment whose documents match were counted over what was found before
 pub record CountsSegment (query : Query) (seg : Shown) (old new : Answer) : Type 0 where

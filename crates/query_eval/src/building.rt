@@ -13,6 +13,7 @@ ghost use Rattle.query_eval.specs.Ranks.{AddsRank};
 use crate::cursor::Cursor;
 use crate::phrase::PhraseWord;
 use crate::rank::{Leaf, Ranker};
+use crate::word::WordHits;
 use documents::Query;
 use nrt_base::{List, NoMemory, Word};
 use seg_reader::Segment;
@@ -20,6 +21,7 @@ use std::alloc::Global;
 
 // The cursor of a word, which is counted.
 fn word_cursor<'a>(
+    alloc: Global,
     seg: &'a Segment,
     word: &Word,
     ranker: &mut Ranker<'a>,
@@ -31,8 +33,8 @@ fn word_cursor<'a>(
 {
     match seg.word(word.as_slice()) {
         Some(hits) => {
-            ranker.push(Leaf::Word(hits.again()))?;
-            Ok(Cursor::Word(hits))
+            ranker.push(Leaf::Word(WordHits::new(alloc, hits.again())?))?;
+            Ok(Cursor::Word(WordHits::new(alloc, hits)?))
         }
         None => Ok(Cursor::Nothing),
     }
@@ -120,7 +122,7 @@ pub fn cursor_of<'a>(
         (λ doc. rank_of query.now (words_of doc.text)) ranker.old ranker.new) }
 {
     match query {
-        Query::Word(word) => word_cursor(seg, word, ranker),
+        Query::Word(word) => word_cursor(alloc, seg, word, ranker),
         Query::Phrase(phrase) => phrase_cursor(alloc, seg, phrase, ranker),
         Query::All(parts) => cursor_of_all(alloc, seg, parts, ranker),
         Query::Any(parts) => cursor_of_any(alloc, seg, parts, ranker),

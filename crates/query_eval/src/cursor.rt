@@ -5,7 +5,7 @@ ghost use Rattle.query_eval.specs.Advance.{FindsRow, both, either, from_least, l
 ghost use Rattle.query_eval.specs.Cursor.{answers, parted};
 
 use crate::phrase::{PhraseWord, advance_phrase};
-use postings_plain::Postings;
+use crate::word::WordHits;
 use std::mem;
 
 /// The rows of a segment that a query asks for, gone through in ascending order. The rows that were passed are below the
@@ -15,7 +15,7 @@ pub enum Cursor<'a> {
     Nothing,
     Every,
     /// The rows that have a word.
-    Word(Postings<'a>),
+    Word(WordHits<'a>),
     /// The rows from the least on in which the words stand together.
     Phrase {
         least: u32,

@@ -7,5 +7,6 @@ mod cursor;
 mod phrase;
 mod rank;
 mod search;
+mod word;
 
 pub use search::answer;

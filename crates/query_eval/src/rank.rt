@@ -2,19 +2,19 @@
 
 ghost use Rattle.std.specs.Prelude.{◌≡◌, ◌+◌, ◌-◌, ◌^◌, ◌≤◌, ℕ, length, min, OnOk};
 ghost use Rattle.std.specs.List.{sum_by};
-ghost use Rattle.postings_plain.specs.Rows.{from_row, first_positions};
+ghost use Rattle.postings_plain.specs.Rows.{from_row};
 ghost use Rattle.query_eval.specs.Phrases.{places_in};
 ghost use Rattle.query_eval.specs.Ranks.{times_in, rank_in, KeepsRanks};
 
 use crate::phrase::{PhraseWord, count_phrase};
+use crate::word::WordHits;
 use nrt_base::NoMemory;
-use postings_plain::Postings;
 use std::alloc::Global;
 
 /// A word or a phrase that is counted.
 #[derive(Drop)]
 pub enum Leaf<'a> {
-    Word(Postings<'a>),
+    Word(WordHits<'a>),
     Phrase(Vec<PhraseWord<'a>>),
 }
 
@@ -24,24 +24,13 @@ pub struct Ranker<'a> {
     leaves: Vec<Leaf<'a>>,
 }
 
-// How often a word stands in the row where its hits stand.
-fn count_places(hits: &Postings<'_>) -> u32
-    ensures { result ≡ length (first_positions hits.now) }
-{
-    let mut times = 0;
-    for _place in hits.positions() {
-        times += 1;
-    }
-    times
-}
-
 // How often a word stands in a row, to which its hits are moved.
-fn count_word(hits: &mut Postings<'_>, row: u32) -> u32
+fn count_word(hits: &mut WordHits<'_>, row: u32) -> u32
     ensures times { result ≡ length (places_in row hits.old) }
     ensures left { hits.new ≡ from_row row hits.old }
 {
     match hits.next_from(row) {
-        Some(found) if found == row => count_places(hits),
+        Some(found) if found == row => hits.times(),
         _ => 0,
     }
 }

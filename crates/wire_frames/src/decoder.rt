@@ -1,6 +1,6 @@
 //! Messages, taken from a stream that comes in pieces.
 
-ghost use Rattle.std.specs.Prelude.{◌≡◌, ◌⊎◌, ◌++◌, ◌≤◌, [], length, drop, Err, OnErr, IfOk, IfErr};
+ghost use Rattle.std.specs.Prelude.{◌≡◌, ◌⊎◌, ◌++◌, ◌≤◌, [], length, drop, Err, OnOk, OnErr, IfOk, IfErr};
 ghost use Rattle.wire_frames.specs.Streams.{BeginsWith, AreMessagesOf, IsUnfinished, IsStreamFault, IsCauseOf, TellsFront};
 
 use crate::message::{Message, WireFault};
@@ -39,12 +39,38 @@ fn whole_messages(alloc: Global, bytes: &[u8]) -> Result<(Vec<Message>, &[u8]), 
     Ok((messages, rest))
 }
 
-// Cuts the first bytes off.
-fn cut_front(held: &mut Vec<u8>, count: usize)
+// Cuts the first bytes off. What is left goes into a new vector, since a `drain` moves it byte by byte.
+fn cut_front(alloc: Global, held: &mut Vec<u8>, count: usize) -> Result<(), NoMemory>
     requires { count ≤ length held.old.items }
-    ensures { held.new.items ≡ drop count held.old.items }
+    ensures cut { OnOk result (held.new.items ≡ drop count held.old.items) }
+    ensures same { OnErr result (held.new.items ≡ held.old.items) }
 {
-    held.drain(..count);
+    if count == 0 {
+        return Ok(());
+    }
+    let (_, left) = held.as_slice().split_at(count);
+    let mut rest = Vec::with_capacity(alloc, left.len())?;
+    rest.extend_from_slice(left)?;
+    *held = rest;
+    Ok(())
+}
+
+// Takes the messages out whose frames are whole at the front.
+fn take_out(alloc: Global, held: &mut Vec<u8>) -> Result<Vec<Message>, WireFault>
+    ensures read { IfOk result (λ messages.
+        BeginsWith held.old.items messages.items held.new.items) }
+    ensures ended { OnOk result (IsUnfinished held.new.items) }
+    ensures cause { IfErr result (IsCauseOf held.old.items) }
+    ensures same { OnErr result (held.new.items ≡ held.old.items) }
+{
+    match whole_messages(alloc, held.as_slice()) {
+        Ok((messages, rest)) => {
+            let whole = held.len() - rest.len();
+            cut_front(alloc, held, whole)?;
+            Ok(messages)
+        }
+        Err(fault) => Err(fault),
+    }
 }
 
 // Takes a piece in behind the bytes that are held, and the messages out whose frames are whole.
@@ -57,12 +83,8 @@ fn take_in(alloc: Global, held: &mut Vec<u8>, piece: &[u8]) -> Result<Vec<Messag
 {
     let before = held.len();
     held.extend_from_slice(piece)?;
-    match whole_messages(alloc, held.as_slice()) {
-        Ok((messages, rest)) => {
-            let whole = held.len() - rest.len();
-            cut_front(held, whole);
-            Ok(messages)
-        }
+    match take_out(alloc, held) {
+        Ok(messages) => Ok(messages),
         Err(fault) => {
             held.truncate(before);
             Err(fault)

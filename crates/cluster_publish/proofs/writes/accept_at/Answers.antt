@@ -1,13 +1,12 @@
-use Rattle.std.proofs.Common.{ℕ, ◌+◌, ◌∙◌, ap, ◌≡◌, [], refl, ◌∷◌, Some}
+use Rattle.std.proofs.Common.{ℕ, ◌+◌, ◌∙◌, ap, refl, ◌∷◌, Some}
 use Rattle.history_rules.specs.declared.entry.Event.TheVariants.{Accepted}
 use Rattle.cluster_state.proofs.Frames.{slot_at, slot_kept, there_at, rule_at}
 use Rattle.cluster_publish.proofs.PublishPaths.{primary_stands, may_accept, accept_path}
 use Rattle.cluster_publish.proofs.PublishFiles.{accept_files}
-use Rattle.cluster_state.proofs.Ledgers.{asked_of, fresh_of, told_of}
+use Rattle.cluster_state.proofs.Ledgers.{told_of}
 use Rattle.history_rules.specs.Nodes.{accepted_count}
-use Rattle.history_rules.specs.Lines.{entries_of_line}
-use Rattle.history_book.specs.Log.{Log, printed, shown}
-use Rattle.cluster_state.proofs.Turning.{log_is, nodes_is}
+use Rattle.history_book.specs.Log.{printed, shown}
+use Rattle.cluster_state.proofs.Turning.{log_is, nodes_is, later_turn}
 use Rattle.cluster_state.specs.Run.{Run}
 use Rattle.cluster_state.proofs.MergingPaths.{third_at, put_shown}
 use Rattle.cluster_state.proofs.MergingStill.{primary_keeps}
@@ -30,15 +29,15 @@ put-requires g c = record { slot = slot_kept g.D.Dir.cells _ _ c.args.p.0 c.take
 
 pub show-requires-clause-rule : goal.show-requires-clause-rule
 show-requires-clause-rule g c = rule_at c.args.cluster.now _ c.cluster.inside.ledger c.reserve.new.self c.args.at (Accepted c.in-Some.seq c.args.op) c.cluster.view_is c.in_ok-reserve.ensures.log c.in_ok-reserve.ensures.nodes
-    (may_accept c.args.cluster.now _ c.cluster.inside.ledger c.args.at c.args.p c.in-Some.seq c.args.op c.cluster.view_is (fresh_of c.book-book.ensures.log c.is_fresh.ensures) c.requires.primary (c.in-Some.ensures.0 ∙ ap (λ (k : ℕ). k + 1) (told_of c.book-book.ensures.log accepted_count c.accepted.ensures)))
+    (may_accept c.args.cluster.now _ c.cluster.inside.ledger c.args.at c.args.p c.in-Some.seq c.args.op c.cluster.view_is c.requires.spared c.requires.primary (c.in-Some.ensures.0 ∙ ap (λ (k : ℕ). k + 1) (told_of c.book-book.ensures.log accepted_count c.accepted.ensures)))
 
 pub invariant_of-cluster-2 : goal.invariant_of-cluster-2
 invariant_of-cluster-2 g c = λ running. (
   accept_path g.D.Dir.cells c.args.cluster.now _ c.cluster.inside.ledger c.reserve.new.self c.show.new.self _ c.take.new.places.items _ c.args.at c.args.p c.in-Some.seq c.args.op c.in_ok-copy.copy
       c.take.result c.primary_in-primary.result.0 c.accept-place.new.self c.primary_in-primary.result.1
       c.cluster.view_is c.requires.running (λ e. (c.cluster.invariant e).0) c.in_ok-reserve.ensures.log c.in_ok-reserve.ensures.nodes c.show.ensures.log c.show.ensures.nodes c.show.ensures.legal c.show.ensures.turns
-      (fresh_of c.book-book.ensures.log c.is_fresh.ensures)
-      (may_accept c.args.cluster.now _ c.cluster.inside.ledger c.args.at c.args.p c.in-Some.seq c.args.op c.cluster.view_is (fresh_of c.book-book.ensures.log c.is_fresh.ensures) c.requires.primary (c.in-Some.ensures.0 ∙ ap (λ (k : ℕ). k + 1) (told_of c.book-book.ensures.log accepted_count c.accepted.ensures)))
+      c.requires.begun
+      (may_accept c.args.cluster.now _ c.cluster.inside.ledger c.args.at c.args.p c.in-Some.seq c.args.op c.cluster.view_is c.requires.spared c.requires.primary (c.in-Some.ensures.0 ∙ ap (λ (k : ℕ). k + 1) (told_of c.book-book.ensures.log accepted_count c.accepted.ensures)))
       c.requires.node c.requires.primary
       (record { count = c.take.ensures.count; taken = c.take.ensures.places; again = c.put.ensures.count; there = c.put.ensures.places })
       c.take.ensures.place c.primary_in-primary.ensures
@@ -47,8 +46,8 @@ invariant_of-cluster-2 g c = λ running. (
       c.cluster.view_is c.requires.running (λ e. (c.cluster.invariant e).0) (λ e. (c.cluster.invariant e).1) c.in_ok-reserve.ensures.log c.in_ok-reserve.ensures.nodes c.requires.node
       (record { count = c.take.ensures.count; taken = c.take.ensures.places; again = c.put.ensures.count; there = c.put.ensures.places })
       c.take.ensures.place c.primary_in-primary.ensures
-      c.show.new.self c.args.at c.show.ensures.legal c.show.ensures.turns c.in-Some.seq c.args.op c.in_ok-copy.copy c.show.ensures.log c.show.ensures.nodes (fresh_of c.book-book.ensures.log c.is_fresh.ensures)
-      (may_accept c.args.cluster.now _ c.cluster.inside.ledger c.args.at c.args.p c.in-Some.seq c.args.op c.cluster.view_is (fresh_of c.book-book.ensures.log c.is_fresh.ensures) c.requires.primary (c.in-Some.ensures.0 ∙ ap (λ (k : ℕ). k + 1) (told_of c.book-book.ensures.log accepted_count c.accepted.ensures)))
+      c.show.new.self c.args.at c.show.ensures.legal c.show.ensures.turns c.in-Some.seq c.args.op c.in_ok-copy.copy c.show.ensures.log c.show.ensures.nodes c.requires.begun
+      (may_accept c.args.cluster.now _ c.cluster.inside.ledger c.args.at c.args.p c.in-Some.seq c.args.op c.cluster.view_is c.requires.spared c.requires.primary (c.in-Some.ensures.0 ∙ ap (λ (k : ℕ). k + 1) (told_of c.book-book.ensures.log accepted_count c.accepted.ensures)))
       c.in_ok-place.ensures.waits,
   put_shown g.D.Dir.cells c.cluster.inside.tasks c.args.cluster.now _ c.cluster.inside.ledger c.reserve.new.self _ c.take.new.places.items _ c.args.p.0
       (record { node = Primary c.accept-place.new.self; held = c.primary_in-primary.result.1 }) (record { node = Primary c.primary_in-primary.result.0; held = c.primary_in-primary.result.1 })
@@ -60,8 +59,8 @@ invariant_of-cluster-2 g c = λ running. (
       c.show.new.self c.args.at (Accepted c.in-Some.seq c.args.op) c.show.ensures.log c.show.ensures.nodes c.show.ensures.cut refl,
 )
 
-pub is_fresh-requires : goal.is_fresh-requires
-is_fresh-requires g c = asked_of (λ (l : Log). entries_of_line c.args.at (printed l) ≡ []) c.cluster.view_is c.book-book.ensures.log c.requires.fresh
+pub show-requires-clause-turn : goal.show-requires-clause-turn
+show-requires-clause-turn g c = later_turn _ c.args.at (Accepted c.in-Some.seq c.args.op) refl tt
 
 pub returns-clause-ok : goal.returns-clause-ok
 returns-clause-ok g c =

@@ -12,7 +12,7 @@ pub run_script-requires-clause-runs : goal.run_script-requires-clause-runs
 run_script-requires-clause-runs g c = λ κs lives. lines_run c.args.script.now c.requires.form c.requires.built
 
 pub returns-clause-serves : goal.returns-clause-serves
-returns-clause-serves g c = left_serves c.args.script.now c.in_ok-left.left c.in_ok-left.ensures.setup c.in_ok-left.ensures.serves
+returns-clause-serves g c = left_serves c.args.script.now c.in_ok-left.left c.into_cluster-cluster.result c.in_ok-left.ensures.setup c.in_ok-left.ensures.serves c.into_cluster-cluster.ensures
 
 pub sent-requires-4-send-T : goal.sent-requires-4-send-T
 sent-requires-4-send-T g c κs =

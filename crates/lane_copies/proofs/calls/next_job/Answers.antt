@@ -10,23 +10,23 @@ use Rattle.lane_copies.proofs.calls.next_job.Goals as goal
 
 pub settle_next-requires-clause-settling : goal.settle_next-requires-clause-settling
 settle_next-requires-clause-settling g c =
-    settle_copied c.args.cluster.now.nodes (printed c.args.cluster.now.log) c.args.at c.args.left.now c.in_ok-next.next c.in_ok-next.ensures.version c.in_ok-next.ensures.nodes
+    settle_copied c.args.site.now.run.nodes (printed c.args.site.now.run.log) c.args.at c.args.left.now c.in_ok-next.next c.in_ok-next.ensures.version c.in_ok-next.ensures.nodes
     (c.requires.settling (c.is_open.ensures.0 c.if-not-is_open.false))
 
 pub returns-then-not-is_open-clause-ok : goal.returns-then-not-is_open-clause-ok
-returns-then-not-is_open-clause-ok g c = closed_settle c.args.at c.args.cluster.now c.args.left.now c.is_open.result c.is_open.ensures c.if-not-is_open.true c.requires.started
+returns-then-not-is_open-clause-ok g c = closed_settle c.args.at c.args.site.now.run c.args.left.now c.is_open.result c.is_open.ensures c.if-not-is_open.true c.requires.started
 
 pub returns-in-Busy-clause-ok : goal.returns-in-Busy-clause-ok
 returns-in-Busy-clause-ok g c =
-    let goes : SettleGoesOn c.args.at c.args.cluster.now c.settle_next.new.self c.settle_next.new.task Busy =
-    subst (λ (turn : Turn CopyTask). SettleGoesOn c.args.at c.args.cluster.now c.settle_next.new.self c.settle_next.new.task turn) c.in-Busy.is c.in_ok-settle_next.ensures.ok in
-    waits_shows c.args.at c.args.cluster.now c.settle_next.new.self c.args.left.now c.settle_next.new.task (c.requires.settling (c.is_open.ensures.0 c.if-not-is_open.false)) goes
+    let goes : SettleGoesOn c.args.at c.args.site.now.run c.settle_next.new.self.run c.settle_next.new.task Busy =
+    subst (λ (turn : Turn CopyTask). SettleGoesOn c.args.at c.args.site.now.run c.settle_next.new.self.run c.settle_next.new.task turn) c.in-Busy.is c.in_ok-settle_next.ensures.ok in
+    waits_shows c.args.at c.args.site.now.run c.settle_next.new.self.run c.args.left.now c.settle_next.new.task (c.requires.settling (c.is_open.ensures.0 c.if-not-is_open.false)) goes
 
 pub returns-in-Done-clause-ok : goal.returns-in-Done-clause-ok
-returns-in-Done-clause-ok g c = subst (λ (turn : Turn CopyTask). IsRepliedAtDone c.args.at c.settle_next.new.self turn) c.in-Done.is c.in_ok-settle_next.ensures.replied
+returns-in-Done-clause-ok g c = subst (λ (turn : Turn CopyTask). IsRepliedAtDone c.args.at c.settle_next.new.self.run turn) c.in-Done.is c.in_ok-settle_next.ensures.replied
 
 pub returns-in-Work-clause-ok : goal.returns-in-Work-clause-ok
 returns-in-Work-clause-ok g c =
-    let goes : SettleGoesOn c.args.at c.args.cluster.now c.settle_next.new.self c.settle_next.new.task (Work c.in-Work.task) =
-    subst (λ (turn : Turn CopyTask). SettleGoesOn c.args.at c.args.cluster.now c.settle_next.new.self c.settle_next.new.task turn) c.in-Work.is c.in_ok-settle_next.ensures.ok in
-    begins_shows c.args.at c.args.cluster.now c.settle_next.new.self c.settle_next.new.task c.in-Work.task goes
+    let goes : SettleGoesOn c.args.at c.args.site.now.run c.settle_next.new.self.run c.settle_next.new.task (Work c.in-Work.task) =
+    subst (λ (turn : Turn CopyTask). SettleGoesOn c.args.at c.args.site.now.run c.settle_next.new.self.run c.settle_next.new.task turn) c.in-Work.is c.in_ok-settle_next.ensures.ok in
+    begins_shows c.args.at c.args.site.now.run c.settle_next.new.self.run c.settle_next.new.task c.in-Work.task goes

@@ -1,4 +1,4 @@
-use Rattle.std.proofs.Common.{Some, ap, sym, subst}
+use Rattle.std.proofs.Common.{Some, ap, subst}
 use Rattle.link_model.specs.Memory.{LinkState}
 use Rattle.copy_job.specs.Copying.{ArrivesByFate}
 use Rattle.lane_copies.proofs.Carried.{memory_alone}

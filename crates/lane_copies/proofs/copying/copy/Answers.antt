@@ -10,36 +10,36 @@ use Rattle.lane_copies.proofs.Steps.{on_copy_ended}
 use Rattle.lane_copies.proofs.copying.copy.Goals as goal
 
 pub loop-init : goal.loop-init
-loop-init g c = takes_first c.args.lock.now (Copy c.args.n) c.args.at c.args.seat.now c.requires.seat c.requires.fresh
+loop-init g c = takes_first c.args.lanes.now.lock.now (Copy c.args.n) c.args.at c.args.seat.now c.requires.seat c.requires.fresh
 
 pub loop-preserved : goal.loop-preserved
 loop-preserved g c =
-    let turns : TurnsLine (BeginsCopy c.args.at c.args.n) (IsUnbegunIn c.args.at) c.args.lock.now (Copy c.args.n) c.args.at c.loop.seat c.start.new.seat Busy =
-    subst (λ (turn : Turn CopyTask). TurnsLine (BeginsCopy c.args.at c.args.n) (IsUnbegunIn c.args.at) c.args.lock.now (Copy c.args.n) c.args.at c.loop.seat c.start.new.seat turn) c.in-Busy.is c.in_ok-start.ensures in
-    takes_then c.args.lock.now (Copy c.args.n) c.args.at c.args.seat.now c.loop.seat c.start.new.seat c.loop.invariant (IsUnbegunIn c.args.at) turns
+    let turns : TurnsLine c.args.lanes.now.setup.log (BeginsCopy c.args.at c.args.n) (IsUnbegunIn c.args.at) c.args.lanes.now.lock.now (Copy c.args.n) c.args.at c.loop.seat c.start.new.seat Busy =
+    subst (λ (turn : Turn CopyTask). TurnsLine c.args.lanes.now.setup.log (BeginsCopy c.args.at c.args.n) (IsUnbegunIn c.args.at) c.args.lanes.now.lock.now (Copy c.args.n) c.args.at c.loop.seat c.start.new.seat turn) c.in-Busy.is c.in_ok-start.ensures in
+    takes_then c.args.lanes.now.lock.now (Copy c.args.n) c.args.at c.args.seat.now c.loop.seat c.start.new.seat c.loop.invariant (IsUnbegunIn c.args.at) turns
 
 pub returns-in-Done : goal.returns-in-Done
 returns-in-Done g c =
-    let turns : TurnsLine (BeginsCopy c.args.at c.args.n) (IsUnbegunIn c.args.at) c.args.lock.now (Copy c.args.n) c.args.at c.loop.seat c.start.new.seat Done =
-    subst (λ (turn : Turn CopyTask). TurnsLine (BeginsCopy c.args.at c.args.n) (IsUnbegunIn c.args.at) c.args.lock.now (Copy c.args.n) c.args.at c.loop.seat c.start.new.seat turn) c.in-Done.is c.in_ok-start.ensures in
-    takes_ends c.args.lock.now (Copy c.args.n) c.args.at c.args.seat.now c.loop.seat c.start.new.seat c.loop.invariant turns
+    let turns : TurnsLine c.args.lanes.now.setup.log (BeginsCopy c.args.at c.args.n) (IsUnbegunIn c.args.at) c.args.lanes.now.lock.now (Copy c.args.n) c.args.at c.loop.seat c.start.new.seat Done =
+    subst (λ (turn : Turn CopyTask). TurnsLine c.args.lanes.now.setup.log (BeginsCopy c.args.at c.args.n) (IsUnbegunIn c.args.at) c.args.lanes.now.lock.now (Copy c.args.n) c.args.at c.loop.seat c.start.new.seat turn) c.in-Done.is c.in_ok-start.ensures in
+    takes_ends c.args.lanes.now.lock.now (Copy c.args.n) c.args.at c.args.seat.now c.loop.seat c.start.new.seat c.loop.invariant turns
 
 pub bring_over-requires-clause-seat : goal.bring_over-requires-clause-seat
 bring_over-requires-clause-seat g c =
-    let turns : TurnsLine (BeginsCopy c.args.at c.args.n) (IsUnbegunIn c.args.at) c.args.lock.now (Copy c.args.n) c.args.at c.loop.seat c.start.new.seat (Work c.in-Work.task) =
-    subst (λ (turn : Turn CopyTask). TurnsLine (BeginsCopy c.args.at c.args.n) (IsUnbegunIn c.args.at) c.args.lock.now (Copy c.args.n) c.args.at c.loop.seat c.start.new.seat turn) c.in-Work.is c.in_ok-start.ensures in
+    let turns : TurnsLine c.args.lanes.now.setup.log (BeginsCopy c.args.at c.args.n) (IsUnbegunIn c.args.at) c.args.lanes.now.lock.now (Copy c.args.n) c.args.at c.loop.seat c.start.new.seat (Work c.in-Work.task) =
+    subst (λ (turn : Turn CopyTask). TurnsLine c.args.lanes.now.setup.log (BeginsCopy c.args.at c.args.n) (IsUnbegunIn c.args.at) c.args.lanes.now.lock.now (Copy c.args.n) c.args.at c.loop.seat c.start.new.seat turn) c.in-Work.is c.in_ok-start.ensures in
     turns.taken.seat
 
 pub bring_over-requires-clause-copying : goal.bring_over-requires-clause-copying
 bring_over-requires-clause-copying g c =
-    let turns : TurnsLine (BeginsCopy c.args.at c.args.n) (IsUnbegunIn c.args.at) c.args.lock.now (Copy c.args.n) c.args.at c.loop.seat c.start.new.seat (Work c.in-Work.task) =
-    subst (λ (turn : Turn CopyTask). TurnsLine (BeginsCopy c.args.at c.args.n) (IsUnbegunIn c.args.at) c.args.lock.now (Copy c.args.n) c.args.at c.loop.seat c.start.new.seat turn) c.in-Work.is c.in_ok-start.ensures in
+    let turns : TurnsLine c.args.lanes.now.setup.log (BeginsCopy c.args.at c.args.n) (IsUnbegunIn c.args.at) c.args.lanes.now.lock.now (Copy c.args.n) c.args.at c.loop.seat c.start.new.seat (Work c.in-Work.task) =
+    subst (λ (turn : Turn CopyTask). TurnsLine c.args.lanes.now.setup.log (BeginsCopy c.args.at c.args.n) (IsUnbegunIn c.args.at) c.args.lanes.now.lock.now (Copy c.args.n) c.args.at c.loop.seat c.start.new.seat turn) c.in-Work.is c.in_ok-start.ensures in
     turns.now.copying
 
 pub returns-in-Work : goal.returns-in-Work
 returns-in-Work g c =
-    let turns : TurnsLine (BeginsCopy c.args.at c.args.n) (IsUnbegunIn c.args.at) c.args.lock.now (Copy c.args.n) c.args.at c.loop.seat c.start.new.seat (Work c.in-Work.task) =
-    subst (λ (turn : Turn CopyTask). TurnsLine (BeginsCopy c.args.at c.args.n) (IsUnbegunIn c.args.at) c.args.lock.now (Copy c.args.n) c.args.at c.loop.seat c.start.new.seat turn) c.in-Work.is c.in_ok-start.ensures in
-    on_takes_ends c.args.lock.now (Copy c.args.n) c.args.at c.args.seat.now c.start.new.seat c.bring_over.new.seat
-    (takes_then c.args.lock.now (Copy c.args.n) c.args.at c.args.seat.now c.loop.seat c.start.new.seat c.loop.invariant (BeginsCopy c.args.at c.args.n c.in-Work.task) turns) c.bring_over.result
-    (on_copy_ended c.args.nodes c.args.lock.now c.args.at c.in-Work.task c.args.n c.bring_over.result c.start.new.seat c.bring_over.new.seat turns.now c.bring_over.ensures)
+    let turns : TurnsLine c.args.lanes.now.setup.log (BeginsCopy c.args.at c.args.n) (IsUnbegunIn c.args.at) c.args.lanes.now.lock.now (Copy c.args.n) c.args.at c.loop.seat c.start.new.seat (Work c.in-Work.task) =
+    subst (λ (turn : Turn CopyTask). TurnsLine c.args.lanes.now.setup.log (BeginsCopy c.args.at c.args.n) (IsUnbegunIn c.args.at) c.args.lanes.now.lock.now (Copy c.args.n) c.args.at c.loop.seat c.start.new.seat turn) c.in-Work.is c.in_ok-start.ensures in
+    on_takes_ends c.args.lanes.now.lock.now (Copy c.args.n) c.args.at c.args.seat.now c.start.new.seat c.bring_over.new.seat
+    (takes_then c.args.lanes.now.lock.now (Copy c.args.n) c.args.at c.args.seat.now c.loop.seat c.start.new.seat c.loop.invariant (BeginsCopy c.args.at c.args.n c.in-Work.task) turns) c.bring_over.result
+    (on_copy_ended c.args.lanes.now.setup.log c.args.lanes.now.setup.nodes c.args.lanes.now.lock.now c.args.at c.in-Work.task c.args.n c.bring_over.result c.start.new.seat c.bring_over.new.seat turns.now c.bring_over.ensures)

@@ -3,4 +3,4 @@ use Rattle.lane_sections.specs.Turns.{TakesLineTo, IsUnbegunIn}
 use Rattle.lane_copies.proofs.draining.drain.Given as goal
 
 abbrev pub invariant-loop : goal.invariant-loop
-invariant-loop g l = TakesLineTo (IsUnbegunIn l.fn.at) l.lock (Drain l.fn.most) l.fn.at l.initial.seat l.seat
+invariant-loop g l = TakesLineTo l.lanes.setup.log (IsUnbegunIn l.fn.at) l.lanes.lock.now (Drain l.fn.most) l.fn.at l.initial.seat l.seat

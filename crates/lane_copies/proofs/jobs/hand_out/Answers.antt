@@ -13,19 +13,19 @@ use Rattle.lane_copies.proofs.jobs.hand_out.Goals as goal
 
 pub next_file-answer-requires-clause-copying : goal.next_file-answer-requires-clause-copying
 next_file-answer-requires-clause-copying g c =
-    let entered = found_entered c.args.lock.now c.args.at c.args.seat.now c.enter_cluster.new.seat c.value.result.now c.in_ok-held.held c.value.ensures.value c.in_ok-held.ensures.entered in
-    copying_stays c.args.at (log_seen c.args.seat.now) c.value.result.now.log entered.apart entered.stays c.args.task.now c.requires.copying
+    let entered = found_entered c.args.lanes.now.lock.now c.args.at c.args.seat.now c.enter_site.new.seat c.value.result.now c.in_ok-held.held c.value.ensures.value c.in_ok-held.ensures.entered c.in_ok-held.ensures.logged in
+    copying_stays c.args.at (log_seen c.args.seat.now) c.value.result.now.run.log entered.has.apart entered.has.stays c.args.task.now c.requires.copying
 
 pub leave-requires-clause-extends : goal.leave-requires-clause-extends
 leave-requires-clause-extends g c =
-    let entered = found_entered c.args.lock.now c.args.at c.args.seat.now c.enter_cluster.new.seat c.value.result.now c.in_ok-held.held c.value.ensures.value c.in_ok-held.ensures.entered in
+    let entered = found_entered c.args.lanes.now.lock.now c.args.at c.args.seat.now c.enter_site.new.seat c.value.result.now c.in_ok-held.held c.value.ensures.value c.in_ok-held.ensures.entered c.in_ok-held.ensures.logged in
     let found = c.value.result.now in
     let some = some_copies c.args.task.now.node.0 (start_entry c.args.at (printed (log_seen c.args.seat.now))) c.requires.copying.started in
-    let asks = subst (λ (o : Option Event). CopiesFor some.0 o) (sym entered.stays.start) some.1 in
-    log_extends c.args.lock.now some.0 c.args.at c.args.seat.now c.enter_cluster.new.seat found c.next_file-answer.new.cluster entered c.next_file-answer.result (c.next_file-answer.ensures.does some.0 asks) c.next_file-answer.ensures.err
+    let asks = subst (λ (o : Option Event). CopiesFor some.0 o) (sym entered.has.stays.start) some.1 in
+    log_extends c.args.lanes.now.lock.now some.0 c.args.at c.args.seat.now c.enter_site.new.seat found c.next_file-answer.new.site entered c.next_file-answer.result (c.next_file-answer.ensures.does some.0 asks) c.next_file-answer.ensures.err
 
 pub returns : goal.returns
 returns g c =
-    let entered = found_entered c.args.lock.now c.args.at c.args.seat.now c.enter_cluster.new.seat c.value.result.now c.in_ok-held.held c.value.ensures.value c.in_ok-held.ensures.entered in
-    on_turns c.args.nodes c.args.lock.now c.args.at c.args.task.now c.args.seat.now c.enter_cluster.new.seat c.leave.new.seat c.value.result.now c.next_file-answer.new.cluster entered
-    (found_legal c.value.result.now c.in_ok-held.held c.value.ensures.value c.in_ok-held.ensures.legal) (found_nodes c.args.nodes c.value.result.now c.in_ok-held.held c.value.ensures.value c.in_ok-held.ensures.nodes) c.leave.ensures.seat c.leave.ensures.seen c.requires.copying (HasFileOut c.args.at c.args.task.now) c.next_file-answer.result c.next_file-answer.ensures.does c.next_file-answer.ensures.ok
+    let entered = found_entered c.args.lanes.now.lock.now c.args.at c.args.seat.now c.enter_site.new.seat c.value.result.now c.in_ok-held.held c.value.ensures.value c.in_ok-held.ensures.entered c.in_ok-held.ensures.logged in
+    on_turns c.args.lanes.now.setup.nodes c.args.lanes.now.lock.now c.args.at c.args.task.now c.args.seat.now c.enter_site.new.seat c.leave.new.seat c.value.result.now c.next_file-answer.new.site entered
+    (found_legal c.value.result.now c.in_ok-held.held c.value.ensures.value c.in_ok-held.ensures.legal) (found_nodes c.args.lanes.now.setup.nodes c.value.result.now c.in_ok-held.held c.value.ensures.value c.in_ok-held.ensures.nodes) c.leave.ensures.seat c.leave.ensures.seen c.requires.copying (HasFileOut c.args.at c.args.task.now) c.next_file-answer.result c.next_file-answer.ensures.does c.next_file-answer.ensures.ok

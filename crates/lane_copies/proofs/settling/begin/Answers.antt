@@ -9,26 +9,26 @@ use Rattle.lane_copies.proofs.settling.begin.Goals as goal
 
 pub next_job-answer-requires-clause-started : goal.next_job-answer-requires-clause-started
 next_job-answer-requires-clause-started g c =
-    let entered = found_entered c.args.lock.now c.args.at c.args.seat.now c.enter_cluster.new.seat c.value.result.now c.in_ok-held.held c.value.ensures.value c.in_ok-held.ensures.entered in
-    entered.stays.start ∙ c.requires.started
+    let entered = found_entered c.args.lanes.now.lock.now c.args.at c.args.seat.now c.enter_site.new.seat c.value.result.now c.in_ok-held.held c.value.ensures.value c.in_ok-held.ensures.entered c.in_ok-held.ensures.logged in
+    entered.has.stays.start ∙ c.requires.started
 
 pub next_job-answer-requires-clause-settling : goal.next_job-answer-requires-clause-settling
 next_job-answer-requires-clause-settling g c =
-    let entered = found_entered c.args.lock.now c.args.at c.args.seat.now c.enter_cluster.new.seat c.value.result.now c.in_ok-held.held c.value.ensures.value c.in_ok-held.ensures.entered in
-    still_settling_stays c.args.nodes c.value.result.now.nodes c.args.at (log_seen c.args.seat.now) c.value.result.now.log (found_nodes c.args.nodes c.value.result.now c.in_ok-held.held c.value.ensures.value c.in_ok-held.ensures.nodes) (found_legal c.value.result.now c.in_ok-held.held c.value.ensures.value c.in_ok-held.ensures.legal) entered.apart
-    entered.stays c.args.left.now c.requires.settling
+    let entered = found_entered c.args.lanes.now.lock.now c.args.at c.args.seat.now c.enter_site.new.seat c.value.result.now c.in_ok-held.held c.value.ensures.value c.in_ok-held.ensures.entered c.in_ok-held.ensures.logged in
+    still_settling_stays c.args.lanes.now.setup.nodes c.value.result.now.run.nodes c.args.at (log_seen c.args.seat.now) c.value.result.now.run.log (found_nodes c.args.lanes.now.setup.nodes c.value.result.now c.in_ok-held.held c.value.ensures.value c.in_ok-held.ensures.nodes) (found_legal c.value.result.now c.in_ok-held.held c.value.ensures.value c.in_ok-held.ensures.legal) entered.has.apart
+    entered.has.stays c.args.left.now c.requires.settling
 
 pub leave-requires-clause-extends : goal.leave-requires-clause-extends
 leave-requires-clause-extends g c =
-    let entered = found_entered c.args.lock.now c.args.at c.args.seat.now c.enter_cluster.new.seat c.value.result.now c.in_ok-held.held c.value.ensures.value c.in_ok-held.ensures.entered in
-    log_extends c.args.lock.now Settle c.args.at c.args.seat.now c.enter_cluster.new.seat c.value.result.now c.next_job-answer.new.cluster entered c.next_job-answer.result c.next_job-answer.ensures.does c.next_job-answer.ensures.err
+    let entered = found_entered c.args.lanes.now.lock.now c.args.at c.args.seat.now c.enter_site.new.seat c.value.result.now c.in_ok-held.held c.value.ensures.value c.in_ok-held.ensures.entered c.in_ok-held.ensures.logged in
+    log_extends c.args.lanes.now.lock.now Settle c.args.at c.args.seat.now c.enter_site.new.seat c.value.result.now c.next_job-answer.new.site entered c.next_job-answer.result c.next_job-answer.ensures.does c.next_job-answer.ensures.err
 
 pub returns : goal.returns
 returns g c =
-    let entered = found_entered c.args.lock.now c.args.at c.args.seat.now c.enter_cluster.new.seat c.value.result.now c.in_ok-held.held c.value.ensures.value c.in_ok-held.ensures.entered in
+    let entered = found_entered c.args.lanes.now.lock.now c.args.at c.args.seat.now c.enter_site.new.seat c.value.result.now c.in_ok-held.held c.value.ensures.value c.in_ok-held.ensures.entered c.in_ok-held.ensures.logged in
     let found = c.value.result.now in
-    let new = c.next_job-answer.new.cluster in
+    let new = c.next_job-answer.new.site in
     let left = c.next_job-answer.new.left in
-    on_call_turns c.args.lock.now Settle c.args.at c.args.seat.now c.enter_cluster.new.seat found new entered c.leave.new.seat c.leave.ensures.seat c.leave.ensures.seen
-    (BeginsNextJob c.args.nodes c.args.at left) (IsSettlingOn c.args.nodes c.args.at left) c.next_job-answer.result c.next_job-answer.ensures.does
-    (on_next_job c.args.nodes c.args.at left found new c.next_job-answer.result (found_nodes c.args.nodes c.value.result.now c.in_ok-held.held c.value.ensures.value c.in_ok-held.ensures.nodes) c.next_job-answer.ensures.does c.next_job-answer.ensures.ok)
+    on_call_turns c.args.lanes.now.lock.now Settle c.args.at c.args.seat.now c.enter_site.new.seat found new entered c.leave.new.seat c.leave.ensures.seat c.leave.ensures.seen
+    (BeginsNextJob c.args.lanes.now.setup.nodes c.args.at left) (IsSettlingOn c.args.lanes.now.setup.nodes c.args.at left) c.next_job-answer.result c.next_job-answer.ensures.does
+    (on_next_job c.args.lanes.now.setup.nodes c.args.at left found new c.next_job-answer.result (found_nodes c.args.lanes.now.setup.nodes c.value.result.now c.in_ok-held.held c.value.ensures.value c.in_ok-held.ensures.nodes) c.next_job-answer.ensures.does c.next_job-answer.ensures.ok)

@@ -4,4 +4,4 @@ use Rattle.lane_copies.proofs.Steps.{IsSettlingYet}
 use Rattle.lane_copies.proofs.settling.settle_on.Given as goal
 
 abbrev pub invariant-loop : goal.invariant-loop
-invariant-loop g l = TakesLineTo (IsSettlingYet l.fn.nodes l.fn.at l.left) l.lock Settle l.fn.at l.initial.seat l.seat
+invariant-loop g l = TakesLineTo l.lanes.setup.log (IsSettlingYet l.lanes.setup.nodes l.fn.at l.left) l.lanes.lock.now Settle l.fn.at l.initial.seat l.seat

@@ -10,36 +10,36 @@ use Rattle.lane_lines.proofs.Commits.{on_node}
 use Rattle.lane_lines.proofs.committing.commit.Goals as goal
 
 pub loop-init : goal.loop-init
-loop-init g c = takes_first c.args.lock.now (Commit c.args.n) c.args.at c.args.seat.now c.requires.seat c.requires.fresh
+loop-init g c = takes_first c.args.lanes.now.lock.now (Commit c.args.n) c.args.at c.args.seat.now c.requires.seat c.requires.fresh
 
 pub loop-preserved : goal.loop-preserved
 loop-preserved g c =
-    let turns : TurnsLine (IsCommitting c.args.at c.args.n) (IsUnbegunIn c.args.at) c.args.lock.now (Commit c.args.n) c.args.at c.loop.seat c.start.new.seat Busy =
-    subst (λ (turn : Turn CommitTask). TurnsLine (IsCommitting c.args.at c.args.n) (IsUnbegunIn c.args.at) c.args.lock.now (Commit c.args.n) c.args.at c.loop.seat c.start.new.seat turn) c.in-Busy.is c.in_ok-start.ensures in
-    takes_then c.args.lock.now (Commit c.args.n) c.args.at c.args.seat.now c.loop.seat c.start.new.seat c.loop.invariant (IsUnbegunIn c.args.at) turns
+    let turns : TurnsLine c.args.lanes.now.setup.log (IsCommitting c.args.at c.args.n) (IsUnbegunIn c.args.at) c.args.lanes.now.lock.now (Commit c.args.n) c.args.at c.loop.seat c.start.new.seat Busy =
+    subst (λ (turn : Turn CommitTask). TurnsLine c.args.lanes.now.setup.log (IsCommitting c.args.at c.args.n) (IsUnbegunIn c.args.at) c.args.lanes.now.lock.now (Commit c.args.n) c.args.at c.loop.seat c.start.new.seat turn) c.in-Busy.is c.in_ok-start.ensures in
+    takes_then c.args.lanes.now.lock.now (Commit c.args.n) c.args.at c.args.seat.now c.loop.seat c.start.new.seat c.loop.invariant (IsUnbegunIn c.args.at) turns
 
 pub returns-in-Done : goal.returns-in-Done
 returns-in-Done g c =
-    let turns : TurnsLine (IsCommitting c.args.at c.args.n) (IsUnbegunIn c.args.at) c.args.lock.now (Commit c.args.n) c.args.at c.loop.seat c.start.new.seat Done =
-    subst (λ (turn : Turn CommitTask). TurnsLine (IsCommitting c.args.at c.args.n) (IsUnbegunIn c.args.at) c.args.lock.now (Commit c.args.n) c.args.at c.loop.seat c.start.new.seat turn) c.in-Done.is c.in_ok-start.ensures in
-    takes_ends c.args.lock.now (Commit c.args.n) c.args.at c.args.seat.now c.loop.seat c.start.new.seat c.loop.invariant turns
+    let turns : TurnsLine c.args.lanes.now.setup.log (IsCommitting c.args.at c.args.n) (IsUnbegunIn c.args.at) c.args.lanes.now.lock.now (Commit c.args.n) c.args.at c.loop.seat c.start.new.seat Done =
+    subst (λ (turn : Turn CommitTask). TurnsLine c.args.lanes.now.setup.log (IsCommitting c.args.at c.args.n) (IsUnbegunIn c.args.at) c.args.lanes.now.lock.now (Commit c.args.n) c.args.at c.loop.seat c.start.new.seat turn) c.in-Done.is c.in_ok-start.ensures in
+    takes_ends c.args.lanes.now.lock.now (Commit c.args.n) c.args.at c.args.seat.now c.loop.seat c.start.new.seat c.loop.invariant turns
 
 pub finish-requires-clause-begun : goal.finish-requires-clause-begun
 finish-requires-clause-begun g c =
-    let turns : TurnsLine (IsCommitting c.args.at c.args.n) (IsUnbegunIn c.args.at) c.args.lock.now (Commit c.args.n) c.args.at c.loop.seat c.start.new.seat (Work c.in-Work.task) =
-    subst (λ (turn : Turn CommitTask). TurnsLine (IsCommitting c.args.at c.args.n) (IsUnbegunIn c.args.at) c.args.lock.now (Commit c.args.n) c.args.at c.loop.seat c.start.new.seat turn) c.in-Work.is c.in_ok-start.ensures in
+    let turns : TurnsLine c.args.lanes.now.setup.log (IsCommitting c.args.at c.args.n) (IsUnbegunIn c.args.at) c.args.lanes.now.lock.now (Commit c.args.n) c.args.at c.loop.seat c.start.new.seat (Work c.in-Work.task) =
+    subst (λ (turn : Turn CommitTask). TurnsLine c.args.lanes.now.setup.log (IsCommitting c.args.at c.args.n) (IsUnbegunIn c.args.at) c.args.lanes.now.lock.now (Commit c.args.n) c.args.at c.loop.seat c.start.new.seat turn) c.in-Work.is c.in_ok-start.ensures in
     turns.now.begun
 
 pub finish-requires-clause-seat : goal.finish-requires-clause-seat
 finish-requires-clause-seat g c =
-    let turns : TurnsLine (IsCommitting c.args.at c.args.n) (IsUnbegunIn c.args.at) c.args.lock.now (Commit c.args.n) c.args.at c.loop.seat c.start.new.seat (Work c.in-Work.task) =
-    subst (λ (turn : Turn CommitTask). TurnsLine (IsCommitting c.args.at c.args.n) (IsUnbegunIn c.args.at) c.args.lock.now (Commit c.args.n) c.args.at c.loop.seat c.start.new.seat turn) c.in-Work.is c.in_ok-start.ensures in
+    let turns : TurnsLine c.args.lanes.now.setup.log (IsCommitting c.args.at c.args.n) (IsUnbegunIn c.args.at) c.args.lanes.now.lock.now (Commit c.args.n) c.args.at c.loop.seat c.start.new.seat (Work c.in-Work.task) =
+    subst (λ (turn : Turn CommitTask). TurnsLine c.args.lanes.now.setup.log (IsCommitting c.args.at c.args.n) (IsUnbegunIn c.args.at) c.args.lanes.now.lock.now (Commit c.args.n) c.args.at c.loop.seat c.start.new.seat turn) c.in-Work.is c.in_ok-start.ensures in
     turns.taken.seat
 
 pub returns-in-Work : goal.returns-in-Work
 returns-in-Work g c =
-    let turns : TurnsLine (IsCommitting c.args.at c.args.n) (IsUnbegunIn c.args.at) c.args.lock.now (Commit c.args.n) c.args.at c.loop.seat c.start.new.seat (Work c.in-Work.task) =
-    subst (λ (turn : Turn CommitTask). TurnsLine (IsCommitting c.args.at c.args.n) (IsUnbegunIn c.args.at) c.args.lock.now (Commit c.args.n) c.args.at c.loop.seat c.start.new.seat turn) c.in-Work.is c.in_ok-start.ensures in
-    on_takes_ends c.args.lock.now (Commit c.args.n) c.args.at c.args.seat.now c.start.new.seat c.finish.new.seat
-    (takes_then c.args.lock.now (Commit c.args.n) c.args.at c.args.seat.now c.loop.seat c.start.new.seat c.loop.invariant (IsCommitting c.args.at c.args.n c.in-Work.task) turns) c.finish.result
-    (on_node c.args.lock.now c.args.at c.in-Work.task.node c.args.n c.finish.result c.start.new.seat c.finish.new.seat turns.now.node c.finish.ensures)
+    let turns : TurnsLine c.args.lanes.now.setup.log (IsCommitting c.args.at c.args.n) (IsUnbegunIn c.args.at) c.args.lanes.now.lock.now (Commit c.args.n) c.args.at c.loop.seat c.start.new.seat (Work c.in-Work.task) =
+    subst (λ (turn : Turn CommitTask). TurnsLine c.args.lanes.now.setup.log (IsCommitting c.args.at c.args.n) (IsUnbegunIn c.args.at) c.args.lanes.now.lock.now (Commit c.args.n) c.args.at c.loop.seat c.start.new.seat turn) c.in-Work.is c.in_ok-start.ensures in
+    on_takes_ends c.args.lanes.now.lock.now (Commit c.args.n) c.args.at c.args.seat.now c.start.new.seat c.finish.new.seat
+    (takes_then c.args.lanes.now.lock.now (Commit c.args.n) c.args.at c.args.seat.now c.loop.seat c.start.new.seat c.loop.invariant (IsCommitting c.args.at c.args.n c.in-Work.task) turns) c.finish.result
+    (on_node c.args.lanes.now.setup.log c.args.lanes.now.lock.now c.args.at c.in-Work.task.node c.args.n c.finish.result c.start.new.seat c.finish.new.seat turns.now.node c.finish.ensures)

@@ -4,4 +4,4 @@ use Rattle.lane_lines.specs.Commits.{HasBegunCommit}
 use Rattle.lane_lines.proofs.committing.finish.Given as goal
 
 abbrev pub invariant-loop : goal.invariant-loop
-invariant-loop g l = TakesLineTo (HasBegunCommit l.fn.at l.task) l.lock (Commit l.task.node) l.fn.at l.initial.seat l.seat
+invariant-loop g l = TakesLineTo l.lanes.setup.log (HasBegunCommit l.fn.at l.task) l.lanes.lock.now (Commit l.task.node) l.fn.at l.initial.seat l.seat

@@ -1,14 +1,14 @@
 use Rattle.script_serving.specs.declared.script.LineCommand.TheVariants.{Promote}
-use Rattle.lane_sections.proofs.Sections.{found_entered, call_extends, on_call_ends}
+use Rattle.lane_sections.proofs.Sections.{found_entered, goes_extends, on_call_ends}
 use Rattle.lane_lines.proofs.lives.promote.Goals as goal
 
 pub leave-requires-clause-extends : goal.leave-requires-clause-extends
 leave-requires-clause-extends g c =
-    let entered = found_entered c.args.lock.now c.args.at c.args.seat.now c.enter_cluster.new.seat c.value.result.now c.in_ok-held.held c.value.ensures.value c.in_ok-held.ensures.entered in
-    call_extends c.args.lock.now (Promote c.args.n c.args.force) c.args.at c.args.seat.now c.enter_cluster.new.seat c.value.result.now c.promote-answer.new.self entered c.promote-answer.result c.promote-answer.ensures.does c.promote-answer.ensures.err
+    let entered = found_entered c.args.lanes.now.lock.now c.args.at c.args.seat.now c.enter_site.new.seat c.value.result.now c.in_ok-held.held c.value.ensures.value c.in_ok-held.ensures.entered c.in_ok-held.ensures.logged in
+    goes_extends c.args.lanes.now.lock.now (Promote c.args.n c.args.force) c.args.at c.args.seat.now c.enter_site.new.seat c.value.result.now c.promote-answer.new.self entered c.promote-answer.ensures.goes
 
 pub returns : goal.returns
 returns g c =
-    let entered = found_entered c.args.lock.now c.args.at c.args.seat.now c.enter_cluster.new.seat c.value.result.now c.in_ok-held.held c.value.ensures.value c.in_ok-held.ensures.entered in
-    on_call_ends c.args.lock.now (Promote c.args.n c.args.force) c.args.at c.args.seat.now c.enter_cluster.new.seat c.value.result.now c.promote-answer.new.self entered c.leave.new.seat c.leave.ensures.seat
+    let entered = found_entered c.args.lanes.now.lock.now c.args.at c.args.seat.now c.enter_site.new.seat c.value.result.now c.in_ok-held.held c.value.ensures.value c.in_ok-held.ensures.entered c.in_ok-held.ensures.logged in
+    on_call_ends c.args.lanes.now.lock.now (Promote c.args.n c.args.force) c.args.at c.args.seat.now c.enter_site.new.seat c.value.result.now c.promote-answer.new.self entered c.leave.new.seat c.leave.ensures.seat
     c.leave.ensures.seen c.promote-answer.result c.promote-answer.ensures.does c.promote-answer.ensures.replied

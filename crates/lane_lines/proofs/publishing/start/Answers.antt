@@ -7,14 +7,14 @@ use Rattle.lane_lines.proofs.publishing.start.Goals as goal
 
 pub leave-requires-clause-extends : goal.leave-requires-clause-extends
 leave-requires-clause-extends g c =
-    let entered = found_entered c.args.lock.now c.args.at c.args.seat.now c.enter_cluster.new.seat c.value.result.now c.in_ok-held.held c.value.ensures.value c.in_ok-held.ensures.entered in
-    call_extends c.args.lock.now Publish c.args.at c.args.seat.now c.enter_cluster.new.seat c.value.result.now c.publish_start-answer.new.self entered c.publish_start-answer.result c.publish_start-answer.ensures.does c.publish_start-answer.ensures.err
+    let entered = found_entered c.args.lanes.now.lock.now c.args.at c.args.seat.now c.enter_site.new.seat c.value.result.now c.in_ok-held.held c.value.ensures.value c.in_ok-held.ensures.entered c.in_ok-held.ensures.logged in
+    call_extends c.args.lanes.now.lock.now Publish c.args.at c.args.seat.now c.enter_site.new.seat c.value.result.now c.publish_start-answer.new.self entered c.publish_start-answer.result c.publish_start-answer.ensures.does c.publish_start-answer.ensures.err
 
 pub returns : goal.returns
 returns g c =
-    let entered = found_entered c.args.lock.now c.args.at c.args.seat.now c.enter_cluster.new.seat c.value.result.now c.in_ok-held.held c.value.ensures.value c.in_ok-held.ensures.entered in
+    let entered = found_entered c.args.lanes.now.lock.now c.args.at c.args.seat.now c.enter_site.new.seat c.value.result.now c.in_ok-held.held c.value.ensures.value c.in_ok-held.ensures.entered c.in_ok-held.ensures.logged in
     let found = c.value.result.now in
     let new = c.publish_start-answer.new.self in
-    on_call_turns c.args.lock.now Publish c.args.at c.args.seat.now c.enter_cluster.new.seat found new entered c.leave.new.seat c.leave.ensures.seat c.leave.ensures.seen (IsFlushing c.args.at) (IsUnbegunIn c.args.at)
+    on_call_turns c.args.lanes.now.lock.now Publish c.args.at c.args.seat.now c.enter_site.new.seat found new entered c.leave.new.seat c.leave.ensures.seat c.leave.ensures.seen (IsFlushing c.args.at) (IsUnbegunIn c.args.at)
     c.publish_start-answer.result c.publish_start-answer.ensures.does
-    (if_ok_three c.publish_start-answer.result (λ turn. publish_shows c.args.at found new turn (entered.stays.fresh c.requires.fresh)) c.publish_start-answer.ensures.ok c.publish_start-answer.ensures.replied c.publish_start-answer.ensures.begun)
+    (if_ok_three c.publish_start-answer.result (λ turn. publish_shows c.args.at found.run new.run turn (entered.has.stays.fresh c.requires.fresh)) c.publish_start-answer.ensures.ok c.publish_start-answer.ensures.replied c.publish_start-answer.ensures.begun)

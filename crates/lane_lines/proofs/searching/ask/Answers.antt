@@ -13,37 +13,37 @@ use Rattle.lane_lines.proofs.searching.ask.Goals as goal
 
 pub unreachable-requires : goal.unreachable-requires
 unreachable-requires g c =
-    let turns : TurnsLine (IsAskingTicket c.args.at c.args.t) NeverWaits c.args.lock.now (Ask c.args.t c.args.query.now) c.args.at c.args.seat.now c.start_ask.new.seat Busy =
-    subst (λ (turn : Turn (Lease Shown)). TurnsLine (IsAskingTicket c.args.at c.args.t) NeverWaits c.args.lock.now (Ask c.args.t c.args.query.now) c.args.at c.args.seat.now c.start_ask.new.seat turn) c.in-Busy.is (c.in_ok-node.ensures c.args.query.now) in
+    let turns : TurnsLine c.args.lanes.now.setup.log (IsAskingTicket c.args.at c.args.t) NeverWaits c.args.lanes.now.lock.now (Ask c.args.t c.args.query.now) c.args.at c.args.seat.now c.start_ask.new.seat Busy =
+    subst (λ (turn : Turn (Lease Shown)). TurnsLine c.args.lanes.now.setup.log (IsAskingTicket c.args.at c.args.t) NeverWaits c.args.lanes.now.lock.now (Ask c.args.t c.args.query.now) c.args.at c.args.seat.now c.start_ask.new.seat turn) c.in-Busy.is (c.in_ok-node.ensures c.args.query.now) in
     turns.now
 
 pub evaluate-requires-clause-sound : goal.evaluate-requires-clause-sound
 evaluate-requires-clause-sound g c =
-    let turns : TurnsLine (IsAskingTicket c.args.at c.args.t) NeverWaits c.args.lock.now (Ask c.args.t c.args.query.now) c.args.at c.args.seat.now c.start_ask.new.seat (Work c.in-Work.lease) =
-    subst (λ (turn : Turn (Lease Shown)). TurnsLine (IsAskingTicket c.args.at c.args.t) NeverWaits c.args.lock.now (Ask c.args.t c.args.query.now) c.args.at c.args.seat.now c.start_ask.new.seat turn) c.in-Work.is (c.in_ok-node.ensures c.args.query.now) in
+    let turns : TurnsLine c.args.lanes.now.setup.log (IsAskingTicket c.args.at c.args.t) NeverWaits c.args.lanes.now.lock.now (Ask c.args.t c.args.query.now) c.args.at c.args.seat.now c.start_ask.new.seat (Work c.in-Work.lease) =
+    subst (λ (turn : Turn (Lease Shown)). TurnsLine c.args.lanes.now.setup.log (IsAskingTicket c.args.at c.args.t) NeverWaits c.args.lanes.now.lock.now (Ask c.args.t c.args.query.now) c.args.at c.args.seat.now c.start_ask.new.seat turn) c.in-Work.is (c.in_ok-node.ensures c.args.query.now) in
     turns.now.1.reads.stands.documents.sound
 
 pub answer_line-requires-clause-seat : goal.answer_line-requires-clause-seat
 answer_line-requires-clause-seat g c =
-    let turns : TurnsLine (IsAskingTicket c.args.at c.args.t) NeverWaits c.args.lock.now (Ask c.args.t c.args.query.now) c.args.at c.args.seat.now c.start_ask.new.seat (Work c.in-Work.lease) =
-    subst (λ (turn : Turn (Lease Shown)). TurnsLine (IsAskingTicket c.args.at c.args.t) NeverWaits c.args.lock.now (Ask c.args.t c.args.query.now) c.args.at c.args.seat.now c.start_ask.new.seat turn) c.in-Work.is (c.in_ok-node.ensures c.args.query.now) in
+    let turns : TurnsLine c.args.lanes.now.setup.log (IsAskingTicket c.args.at c.args.t) NeverWaits c.args.lanes.now.lock.now (Ask c.args.t c.args.query.now) c.args.at c.args.seat.now c.start_ask.new.seat (Work c.in-Work.lease) =
+    subst (λ (turn : Turn (Lease Shown)). TurnsLine c.args.lanes.now.setup.log (IsAskingTicket c.args.at c.args.t) NeverWaits c.args.lanes.now.lock.now (Ask c.args.t c.args.query.now) c.args.at c.args.seat.now c.start_ask.new.seat turn) c.in-Work.is (c.in_ok-node.ensures c.args.query.now) in
     turns.taken.seat
 
 pub answer_line-requires-clause-evaluated : goal.answer_line-requires-clause-evaluated
 answer_line-requires-clause-evaluated g c =
-    let turns : TurnsLine (IsAskingTicket c.args.at c.args.t) NeverWaits c.args.lock.now (Ask c.args.t c.args.query.now) c.args.at c.args.seat.now c.start_ask.new.seat (Work c.in-Work.lease) =
-    subst (λ (turn : Turn (Lease Shown)). TurnsLine (IsAskingTicket c.args.at c.args.t) NeverWaits c.args.lock.now (Ask c.args.t c.args.query.now) c.args.at c.args.seat.now c.start_ask.new.seat turn) c.in-Work.is (c.in_ok-node.ensures c.args.query.now) in
+    let turns : TurnsLine c.args.lanes.now.setup.log (IsAskingTicket c.args.at c.args.t) NeverWaits c.args.lanes.now.lock.now (Ask c.args.t c.args.query.now) c.args.at c.args.seat.now c.start_ask.new.seat (Work c.in-Work.lease) =
+    subst (λ (turn : Turn (Lease Shown)). TurnsLine c.args.lanes.now.setup.log (IsAskingTicket c.args.at c.args.t) NeverWaits c.args.lanes.now.lock.now (Ask c.args.t c.args.query.now) c.args.at c.args.seat.now c.start_ask.new.seat turn) c.in-Work.is (c.in_ok-node.ensures c.args.query.now) in
     ask_evaluated c.args.at c.args.t c.in-Work.lease c.args.query.now c.in_ok-answer-in-Work.answer (log_seen c.start_ask.new.seat) turns.now c.in_ok-answer-in-Work.ensures
 
 pub returns-in_ok-answer-in-Work : goal.returns-in_ok-answer-in-Work
 returns-in_ok-answer-in-Work g c =
-    let turns : TurnsLine (IsAskingTicket c.args.at c.args.t) NeverWaits c.args.lock.now (Ask c.args.t c.args.query.now) c.args.at c.args.seat.now c.start_ask.new.seat (Work c.in-Work.lease) =
-    subst (λ (turn : Turn (Lease Shown)). TurnsLine (IsAskingTicket c.args.at c.args.t) NeverWaits c.args.lock.now (Ask c.args.t c.args.query.now) c.args.at c.args.seat.now c.start_ask.new.seat turn) c.in-Work.is (c.in_ok-node.ensures c.args.query.now) in
-    on_takes_ends c.args.lock.now (Ask c.args.t c.args.query.now) c.args.at c.args.seat.now c.start_ask.new.seat c.answer_line.new.seat turns c.answer_line.result
+    let turns : TurnsLine c.args.lanes.now.setup.log (IsAskingTicket c.args.at c.args.t) NeverWaits c.args.lanes.now.lock.now (Ask c.args.t c.args.query.now) c.args.at c.args.seat.now c.start_ask.new.seat (Work c.in-Work.lease) =
+    subst (λ (turn : Turn (Lease Shown)). TurnsLine c.args.lanes.now.setup.log (IsAskingTicket c.args.at c.args.t) NeverWaits c.args.lanes.now.lock.now (Ask c.args.t c.args.query.now) c.args.at c.args.seat.now c.start_ask.new.seat turn) c.in-Work.is (c.in_ok-node.ensures c.args.query.now) in
+    on_takes_ends c.args.lanes.now.lock.now (Ask c.args.t c.args.query.now) c.args.at c.args.seat.now c.start_ask.new.seat c.answer_line.new.seat turns c.answer_line.result
     (c.answer_line.ensures (Ask c.args.t c.args.query.now) (ask_asks c.args.at c.args.t c.args.query.now c.in-Work.lease (log_seen c.start_ask.new.seat) turns.now))
 
 pub returns-in-Done : goal.returns-in-Done
 returns-in-Done g c =
-    let turns : TurnsLine (IsAskingTicket c.args.at c.args.t) NeverWaits c.args.lock.now (Ask c.args.t c.args.query.now) c.args.at c.args.seat.now c.start_ask.new.seat Done =
-    subst (λ (turn : Turn (Lease Shown)). TurnsLine (IsAskingTicket c.args.at c.args.t) NeverWaits c.args.lock.now (Ask c.args.t c.args.query.now) c.args.at c.args.seat.now c.start_ask.new.seat turn) c.in-Done.is (c.in_ok-node.ensures c.args.query.now) in
+    let turns : TurnsLine c.args.lanes.now.setup.log (IsAskingTicket c.args.at c.args.t) NeverWaits c.args.lanes.now.lock.now (Ask c.args.t c.args.query.now) c.args.at c.args.seat.now c.start_ask.new.seat Done =
+    subst (λ (turn : Turn (Lease Shown)). TurnsLine c.args.lanes.now.setup.log (IsAskingTicket c.args.at c.args.t) NeverWaits c.args.lanes.now.lock.now (Ask c.args.t c.args.query.now) c.args.at c.args.seat.now c.start_ask.new.seat turn) c.in-Done.is (c.in_ok-node.ensures c.args.query.now) in
     turns

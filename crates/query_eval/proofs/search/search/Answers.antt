@@ -1,32 +1,11 @@
-use Rattle.std.proofs.Common.{ℕ, Option, subst, arith}
-use Rattle.query_eval.specs.Advance.{FindsRow}
-use Rattle.query_eval.specs.Cursor.{answers}
-use Rattle.query_eval.proofs.BestLemmas.{no_bar}
-use Rattle.query_eval.proofs.SearchLemmas.{search_start, search_step, search_beyond, search_none}
+use Rattle.std.specs.Prelude.{◌&&◌, nat_le, IsTrue}
+use Rattle.std.proofs.lemmas.Bool.{and_parts}
+use Rattle.documents.specs.Matching.{has_form, depth_of, leaves_of}
+use Rattle.query_eval.proofs.FormLemmas.{form_not}
 use Rattle.query_eval.proofs.search.search.Goals as goal
-use Rattle.query_eval.proofs.search.search.Goals.{in-Some+then-found-rows, in_default}
 
-pub loop-found-init : goal.loop-found-init
-loop-found-init c = (
-  c.rows-rows.ensures.docs,
-  search_start c.args.query.now c.args.seg.now c.args.best.now c.in_ok-cursor.cursor c.new-ranker.result c.cursor_of.new.ranker c.in_ok-cursor.ensures.answers c.in_ok-cursor.ensures.ranks c.new-ranker.ensures,
-  no_bar c.args.seg.now.docs c.places-places.result.now c.new-bar.result c.args.best.now.hits c.new-bar.ensures,
-)
-
-pub loop-found-preserved : goal.loop-found-preserved
-loop-found-preserved c = (
-  c.loop-found.invariant.0,
-  search_step c.args.query.now c.args.seg.now c.args.best.now c.loop-found.best c.count_row.new.best c.loop-found.cursor c.advance.new.cursor c.loop-found.ranker c.count_row.new.ranker
-      c.loop-found.row c.in-Some.found c.requires.well_formed c.rows-rows.ensures.texts c.loop-found.invariant.1 c.in-Some.ensures.found (omega arith) c.in_ok-count_row.ensures.counts c.in_ok-count_row.ensures.keeps,
-  c.in_ok-count_row.ensures.bar,
-)
-
-pub returns : goal.returns
-returns c = elim c.match-advance.branch [
-  | in-Some+then-found-rows w ↦
-      search_beyond c.args.query.now c.args.seg.now c.args.best.now c.loop-found.best c.loop-found.cursor c.loop-found.ranker (answers c.advance.new.cursor) c.loop-found.row w.in-Some.found
-      c.loop-found.invariant.1 w.in-Some.ensures.found (omega arith)
-  | in_default w ↦
-      search_none c.args.query.now c.args.seg.now c.args.best.now c.loop-found.best c.loop-found.cursor c.loop-found.ranker (answers c.advance.new.cursor) c.loop-found.row c.loop-found.invariant.1
-      (subst (λ (o : Option ℕ). FindsRow (answers c.loop-found.cursor) (answers c.advance.new.cursor) c.loop-found.row o) w.in_default.is c.advance.ensures.found) (omega arith)
-]
+pub search_not-requires-clause-form : goal.search_not-requires-clause-form
+search_not-requires-clause-form c =
+    let outer = and_parts (has_form c.args.query.now && nat_le (depth_of c.args.query.now) 32) (nat_le (leaves_of c.args.query.now) 64) c.requires.well_formed in
+    let form : IsTrue (has_form c.args.query.now) = (and_parts (has_form c.args.query.now) (nat_le (depth_of c.args.query.now) 32) outer.0).0 in
+    form_not c.args.query.now c.in-Not.part c.as_ref.result.now c.in-Not.is c.as_ref.ensures form

@@ -1,0 +1,7 @@
+mod Accepts
+pub mod Asked
+mod Lifting
+mod Opens
+mod Promotions
+mod Replays
+mod Stands
