@@ -1,0 +1,4 @@
+pub mod Shapes
+pub mod Scenes
+pub mod Style
+pub mod Drawing

@@ -1,0 +1,13 @@
+//! A drawing of a run: the versions of its nodes over time, tickets and the lines of the script, as SVG.
+#![tactic(auto)]
+
+mod bands;
+mod bars;
+mod pages;
+mod scene;
+mod shapes;
+mod span;
+mod style;
+mod whole;
+
+pub use whole::drawing;
