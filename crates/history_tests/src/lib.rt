@@ -1,6 +1,8 @@
-//! Tests of the rules of histories, of lines of reports, and of replays, which need nothing private.
+//! Tests of the rules of histories, of lines of reports, of replays, and of judgements, which need nothing private.
 #![tactic(auto)]
 
+#[cfg(test)]
+mod judgements;
 #[cfg(test)]
 mod legal_cases;
 #[cfg(test)]
