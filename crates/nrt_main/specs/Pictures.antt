@@ -9,8 +9,8 @@ use Rattle.script_serving.specs.Serves.{Serves}
 use Rattle.run_picture.specs.Picture.{picture_of}
 use Rattle.run_drawing.specs.Drawing.{drawing_of}
 use Rattle.nrt_main.specs.Headline.{IsRunnable, ReadWhole}
-use Rattle.nrt_main.specs.declared.picturing.View.{View}
-use Rattle.nrt_main.specs.declared.picturing.View.TheVariants.{Rows, Drawing}
+use Rattle.nrt_main.specs.declared.picturing.PictureKind.{PictureKind}
+use Rattle.nrt_main.specs.declared.picturing.PictureKind.TheVariants.{Rows, Drawing}
 
 -- the row of words: `picture`
 abbrev pub IsPicture : List (List ℕ) → Type 0
@@ -25,9 +25,9 @@ abbrev pub IsShowing : List (List ℕ) → Type 0
 IsShowing words = IsPicture words ⊎ IsDrawing words
 
 -- what is shown of the entries of a run of so many nodes
-abbrev pub shown_by : View → ℕ → List Entry → List ℕ
-shown_by Rows = picture_of
-shown_by Drawing = drawing_of
+abbrev pub picture_by : PictureKind → ℕ → List Entry → List ℕ
+picture_by Rows = picture_of
+picture_by Drawing = drawing_of
 
 -- the text shows a legal history that serves the script
 pub record ShowsScript (show : ℕ → List Entry → List ℕ) (script : Script) (text : List ℕ) : Type 0 where

@@ -5,7 +5,7 @@ ghost use Rattle.nrt_base.specs.Causes.{Rose};
 ghost use Rattle.script_serving.specs.Form.{IsInForm};
 ghost use Rattle.cluster_run.specs.Built.{IsPlainScript};
 ghost use Rattle.nrt_main.specs.Headline.{RefusesLine, IsAnswer, Refuses, AnswersWhole, TakesWithin, TakesMore, longest};
-ghost use Rattle.nrt_main.specs.Pictures.{shown_by, ShowsScript, Shows, ShowsInPart, Showed, ShowedInPart};
+ghost use Rattle.nrt_main.specs.Pictures.{picture_by, ShowsScript, Shows, ShowsInPart, Showed, ShowedInPart};
 
 use crate::reading::{ReadEnd, read_all};
 use crate::status::Status;
@@ -25,7 +25,7 @@ use std::thread::Threads;
 
 /// How a run is shown.
 #[derive(Clone, Copy, Debug, PartialEq, Eq)]
-pub enum View {
+pub enum PictureKind {
     /// A row of text for each entry.
     Rows,
     /// An SVG drawing.
@@ -33,12 +33,12 @@ pub enum View {
 }
 
 /// What is shown of the entries of a run of so many nodes.
-fn show(alloc: Global, view: View, nodes: u8, entries: &[Entry]) -> Result<Vec<u8>, NoMemory>
-    ensures { IfOk result (λ text. text.items ≡ shown_by view nodes entries.now) }
+fn show(alloc: Global, kind: PictureKind, nodes: u8, entries: &[Entry]) -> Result<Vec<u8>, NoMemory>
+    ensures { IfOk result (λ text. text.items ≡ picture_by kind nodes entries.now) }
 {
-    match view {
-        View::Rows => picture(alloc, nodes, entries),
-        View::Drawing => drawing(alloc, nodes, entries),
+    match kind {
+        PictureKind::Rows => picture(alloc, nodes, entries),
+        PictureKind::Drawing => drawing(alloc, nodes, entries),
     }
 }
 
@@ -47,15 +47,15 @@ fn show_run<R: Threads + Wait + Sync, G: Gate + Sync>(
     rt: &R,
     alloc: Global,
     gate: &G,
-    view: View,
+    kind: PictureKind,
     script: &Script,
 ) -> Result<Vec<u8>, NoMemory>
     requires form { IsInForm script.now }
     requires built { IsPlainScript script.now }
-    ensures { IfOk result (λ text. ShowsScript (shown_by view) script.now text.items) }
+    ensures { IfOk result (λ text. ShowsScript (picture_by kind) script.now text.items) }
 {
     let cluster = run_script(rt, alloc, gate, script)?;
-    let text = show(alloc, view, script.nodes, cluster.entries())?;
+    let text = show(alloc, kind, script.nodes, cluster.entries())?;
     Ok(text)
 }
 
@@ -65,15 +65,15 @@ fn show_bytes<R: Threads + Wait + Sync, K: Sink, G: Gate + Sync>(
     rt: &R,
     alloc: Global,
     gate: &G,
-    view: View,
+    kind: PictureKind,
     bytes: &[u8],
     sink: &mut K,
 ) -> Status
     requires long { length bytes.now ≤ longest }
     ensures done { result ≡ Status.Done
-        → Shows (shown_by view) bytes.now (K.held sink.old) (K.held sink.new) }
+        → Shows (picture_by kind) bytes.now (K.held sink.old) (K.held sink.new) }
     ensures part { result ≡ Status.WriteFault
-        → ShowsInPart (shown_by view) bytes.now (K.held sink.old) (K.held sink.new) }
+        → ShowsInPart (picture_by kind) bytes.now (K.held sink.old) (K.held sink.new) }
     ensures bad { (n : LineNo) (cause : LineFault) → result ≡ Status.BadScript n cause
         → RefusesLine bytes.now n.0 cause }
     ensures answers { result ≢ Status.Memory → IsAnswer bytes.now result }
@@ -88,7 +88,7 @@ fn show_bytes<R: Threads + Wait + Sync, K: Sink, G: Gate + Sync>(
         Ok(script) => script,
         Err(status) => return status,
     };
-    let Ok(text) = show_run(rt, alloc, gate, view, &script) else {
+    let Ok(text) = show_run(rt, alloc, gate, kind, &script) else {
         return Status::Memory;
     };
     match write_all(sink, text.as_slice()) {
@@ -102,15 +102,15 @@ pub fn show_source<R: Threads + Wait + Sync, S: Source, K: Sink, G: Gate + Sync>
     rt: &R,
     alloc: Global,
     gate: &G,
-    view: View,
+    kind: PictureKind,
     source: &mut S,
     sink: &mut K,
 ) -> Status
     requires reads { S.fault_count source.old < 2 ^ 64 - 1 }
     requires writes { K.fault_count sink.old < 2 ^ 64 - 1 }
-    ensures done { result ≡ Status.Done → Showed (shown_by view) (S.left source.old)
+    ensures done { result ≡ Status.Done → Showed (picture_by kind) (S.left source.old)
         (S.left source.new) (K.held sink.old) (K.held sink.new) }
-    ensures part { result ≡ Status.WriteFault → ShowedInPart (shown_by view) (S.left source.old)
+    ensures part { result ≡ Status.WriteFault → ShowedInPart (picture_by kind) (S.left source.old)
         (S.left source.new) (K.held sink.old) (K.held sink.new) }
     ensures bad { (n : LineNo) (cause : LineFault) → result ≡ Status.BadScript n cause → Refuses
         (S.left source.old) (S.left source.new) n.0 cause }
@@ -126,7 +126,7 @@ pub fn show_source<R: Threads + Wait + Sync, S: Source, K: Sink, G: Gate + Sync>
         (result ≢ Status.BadImage) × ((k : ℕ) → result ≢ Status.BadStream k) }
 {
     match read_all(alloc, source) {
-        Ok(bytes) => show_bytes(rt, alloc, gate, view, bytes.as_slice(), sink),
+        Ok(bytes) => show_bytes(rt, alloc, gate, kind, bytes.as_slice(), sink),
         Err(ReadEnd::Memory) => Status::Memory,
         Err(ReadEnd::Fault) => Status::ReadFault,
         Err(ReadEnd::TooLarge) => Status::TooLarge,

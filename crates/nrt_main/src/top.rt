@@ -21,7 +21,7 @@ use crate::built::first_not_built;
 use crate::checking::check_source;
 use crate::judging::judge_source;
 use crate::loading::{load, load_asked};
-use crate::picturing::{View, show_source};
+use crate::picturing::{PictureKind, show_source};
 use crate::reading::{ReadEnd, read_all};
 use crate::status::Status;
 use crate::writing::write_all;
@@ -391,9 +391,9 @@ pub fn run_nrt<R: Threads + Wait + Sync, S: Source, K: Sink, G: Gate + Sync>(
     } else if is_word(words, b"judge") {
         judge_source(alloc, source, sink)
     } else if is_word(words, b"picture") {
-        show_source(rt, alloc, gate, View::Rows, source, sink)
+        show_source(rt, alloc, gate, PictureKind::Rows, source, sink)
     } else if is_pair(words, b"picture", b"svg") {
-        show_source(rt, alloc, gate, View::Drawing, source, sink)
+        show_source(rt, alloc, gate, PictureKind::Drawing, source, sink)
     } else {
         match load_asked(words) {
             Some(n) => load(rt, alloc, gate, words, n, sink, kept),

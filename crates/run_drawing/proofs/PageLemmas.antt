@@ -12,7 +12,7 @@ use Rattle.run_picture.proofs.ViewLemmas.{each_more}
 use Rattle.run_drawing.specs.declared.scene.Scene.{Scene}
 use Rattle.run_drawing.specs.declared.span.Page.{Page}
 use Rattle.run_drawing.specs.Scenes.{ShowsScene}
-use Rattle.run_drawing.specs.Drawing.{lanes_of, page_of, page_head, page_text, page_at, rest_text, rest_of, first_of, marks_at, marks_of, IsDrawn, AreDrawn, IsPageDrawn}
+use Rattle.run_drawing.specs.Drawing.{lanes_of, page_of, page_head, page_text, page_at, rest_text, rest_shown, first_of, marks_at, marks_of, IsEntryDrawn, AreDrawn, IsPageDrawn}
 
 -- so many entries stand before this place
 pub count_first : (entries : List Entry) (i : ℕ) → i ≤ length entries → length (first_of entries i) ≡ i
@@ -41,7 +41,7 @@ first_drawn page size past text scene long shows =
 pub next_drawn : (page : Page) (size : ℕ) (entries : List Entry) (i : ℕ) (e : Entry) (old now new : List ℕ) (scene next : Scene)
     → i < length entries → e ≡ get_or entries i e → page.start ≤ i
     → AreDrawn page size (first_of entries i) old now scene
-    → IsDrawn page size e (first_of entries i) now new next → AreDrawn page size (first_of entries (i + 1)) old new next
+    → IsEntryDrawn page size e (first_of entries i) now new next → AreDrawn page size (first_of entries (i + 1)) old new next
 next_drawn page size entries i e old now new scene next within is high was more =
     subst (λ (past : Past). AreDrawn page size past old new next) (sym (past_next entries i e within is))
     (record {
@@ -73,7 +73,7 @@ pub page_drawn : (lanes size p end : ℕ) (before after : Past) (page : Page) (o
 page_drawn lanes size p end before after page old headed marked rested new scene is long head drawn rest closed =
     let heading = page_head page size p (length after) in
     let marks = marks_of page size after in
-    let going = rest_of page size after in
+    let going = rest_shown page size after in
     let close : List ℕ = codes "</g>" ++ 10 ∷ [] in
     let first : headed ≡ old ++ heading = head ∙ ap (λ (k : ℕ). old ++ page_head page size p k) (sym long) in
     let second : marked ≡ (old ++ heading) ++ marks = drawn.text ∙ ap (λ (t : List ℕ). t ++ marks) first in
@@ -87,7 +87,7 @@ page_drawn lanes size p end before after page old headed marked rested new scene
     record {
       text =
           spelled
-          ∙ ap (λ (q : Page). old ++ (page_head q size p (length after) ++ marks_of q size after ++ rest_of q size after ++ codes "</g>" ++ 10 ∷ [])) is;
+          ∙ ap (λ (q : Page). old ++ (page_head q size p (length after) ++ marks_of q size after ++ rest_shown q size after ++ codes "</g>" ++ 10 ∷ [])) is;
       shows = drawn.shows;
     }
 

@@ -14,13 +14,13 @@ use Rattle.run_picture.specs.declared.shown.NodeView.{NodeView}
 use Rattle.run_picture.specs.Views.{heads_of}
 use Rattle.run_picture.specs.Picture.{state_text, signed_node, sign_of}
 use Rattle.run_drawing.specs.declared.scene.Band.{Band}
-use Rattle.run_drawing.specs.declared.scene.Bar.{Bar}
+use Rattle.run_drawing.specs.declared.scene.OpenBar.{OpenBar}
 use Rattle.run_drawing.specs.declared.scene.Kind.TheVariants.{Line, Ticket}
 use Rattle.run_drawing.specs.declared.span.Page.{Page}
 use Rattle.run_drawing.specs.declared.span.Span.{Span}
 use Rattle.run_drawing.specs.Shapes.{escaped, box_text, line_text, word_text, mark_text}
 use Rattle.run_drawing.specs.declared.scene.Scene.{Scene}
-use Rattle.run_drawing.specs.Scenes.{turns, bands_of, bars_begun, is_over, bars_of, ShowsScene}
+use Rattle.run_drawing.specs.Scenes.{changes_node, bands_of, bars_begun, is_over, bars_of, ShowsScene}
 use Rattle.run_drawing.specs.Style.{style_text}
 
 -- how many entries a page has
@@ -118,35 +118,35 @@ band_text page heads right band =
 -- a node as it was, where an event changes it
 abbrev pub ended_band : Page → Event → Heads → ℕ → Band → List ℕ
 ended_band page e heads place band =
-    if turns e heads.primary band.view.node.0 then
+    if changes_node e heads.primary band.view.node.0 then
     (if nat_lt (max page.start band.since) place then band_text page heads place band else [])
     else []
 
 -- what is told of a line
-unfoldable pub line_title : Bar → Span → List ℕ → List ℕ
+unfoldable pub line_title : OpenBar → Span → List ℕ → List ℕ
 line_title bar span said =
     codes "lane " ++ decimal bar.at.lane.0 ++ codes ", line " ++ decimal bar.at.line.0 ++ codes ", " ++ entries_text span ++ codes ": " ++ said
 
 -- a line of the script: its bar in its lane
-abbrev pub line_bar : Bar → Span → List ℕ → List ℕ → List ℕ
+abbrev pub line_bar : OpenBar → Span → List ℕ → List ℕ → List ℕ
 line_bar bar span class said =
     mark_text (line_title bar span said) (box_text class (x_of span + 1) (6 + 12 * bar.at.lane.0) (width_of span - 2) 9)
 
 -- the name of a ticket
-unfoldable pub ticket_words : Bar → ℕ → List ℕ
+unfoldable pub ticket_words : OpenBar → ℕ → List ℕ
 ticket_words bar t = codes "ticket " ++ decimal t ++ codes " of lane " ++ decimal bar.at.lane.0
 
 -- what is told of a ticket
-unfoldable pub ticket_title : Bar → Span → ℕ → ℕ → List ℕ
+unfoldable pub ticket_title : OpenBar → Span → ℕ → ℕ → List ℕ
 ticket_title bar span t v = ticket_words bar t ++ codes ", " ++ entries_text span ++ codes ": version " ++ decimal v
 
 -- a ticket: its bar at its version, in the band of its node
-abbrev pub ticket_bar : Bar → Span → ℕ → ℕ → ℕ → List ℕ
+abbrev pub ticket_bar : OpenBar → Span → ℕ → ℕ → ℕ → List ℕ
 ticket_bar bar span n t v =
     mark_text (ticket_title bar span t v) (line_text (codes "t") (x_of span + 4) (y_of span.page n v) (width_of span - 8))
 
 -- a line or a ticket up to this place; of a line, what is said of its end
-abbrev pub bar_text : Page → ℕ → List ℕ → List ℕ → Bar → List ℕ
+abbrev pub bar_text : Page → ℕ → List ℕ → List ℕ → OpenBar → List ℕ
 bar_text page right class said bar =
     let span = span_from page bar.since right in
     elim bar.kind [ Line ↦ line_bar bar span class said | Ticket n t v ↦ ticket_bar bar span n.0 t.0 v.0 ]
@@ -160,7 +160,7 @@ abbrev pub said_of : Entry → List ℕ
 said_of e = escaped (text_of_entry e)
 
 -- a line or a ticket, where an entry ends it
-abbrev pub ended_bar : Page → Entry → ℕ → List ℕ → Bar → List ℕ
+abbrev pub ended_bar : Page → Entry → ℕ → List ℕ → OpenBar → List ℕ
 ended_bar page e right said bar = if is_over e bar then bar_text page right (class_of e.event) said bar else []
 
 -- the sign of an event, over the band of its node
@@ -171,7 +171,7 @@ sign_text page e place said (Some n) =
     (word_text (codes "s") (x_of (span_from page place place) + 5) (floor_of page n.0 - 47) (escaped (sign_of e.event)))
 
 -- what an entry adds to a page: the nodes that it changes as they were, the lines and tickets that it ends, and its sign
-abbrev pub marks_text : Page → Entry → ℕ → Heads → List Band → List Bar → List ℕ
+abbrev pub marks_text : Page → Entry → ℕ → Heads → List Band → List OpenBar → List ℕ
 marks_text page e place heads bands bars =
     flat_map (ended_band page e.event heads place) bands ++ flat_map (ended_bar page e (place + 1) (said_of e)) bars
     ++ sign_text page e place (said_of e) (signed_node e.event heads.primary)
@@ -188,21 +188,21 @@ marks_of page size (e ∷ past) =
     if nat_lt (length past) page.start then [] else marks_of page size past ++ marks_at page size e past
 
 -- what the end of a page shows: each node as it is, and the lines and tickets that go on
-abbrev pub rest_text : Page → ℕ → Heads → List Band → List Bar → List ℕ
+abbrev pub rest_text : Page → ℕ → Heads → List Band → List OpenBar → List ℕ
 rest_text page place heads bands bars =
     flat_map (band_text page heads place) bands ++ flat_map (bar_text page place (codes "l") (codes "goes on")) bars
 
 -- what the end of a page shows behind this past
-abbrev pub rest_of : Page → ℕ → Past → List ℕ
-rest_of page size past = rest_text page (length past) (heads_of past) (bands_of size past) (bars_of past)
+abbrev pub rest_shown : Page → ℕ → Past → List ℕ
+rest_shown page size past = rest_text page (length past) (heads_of past) (bands_of size past) (bars_of past)
 
 -- the name of a lane
-abbrev pub lane_name : ℕ → List ℕ
-lane_name lane = word_text (codes "q") 8 (14 + 12 * lane) (codes "lane " ++ decimal lane)
+abbrev pub lane_label : ℕ → List ℕ
+lane_label lane = word_text (codes "q") 8 (14 + 12 * lane) (codes "lane " ++ decimal lane)
 
 -- the name of a node, and the ground of its band
-abbrev pub node_name : Page → ℕ → List ℕ
-node_name page n =
+abbrev pub node_label : Page → ℕ → List ℕ
+node_label page n =
     box_text (codes "w") 64 (floor_of page n - 44) 1100 44 ++ word_text [] 8 (floor_of page n - 18) (codes "node " ++ decimal n)
 
 -- how high a page is
@@ -218,7 +218,7 @@ abbrev pub page_head : Page → ℕ → ℕ → ℕ → List ℕ
 page_head page size p end =
     codes "<g transform='translate(0 " ++ decimal (pages_height page.lanes size p) ++ codes ")'>" ++ 10
     ∷ word_text (codes "q") 64 12 (entries_text (span_from page 0 end))
-    ++ flat_map lane_name (range_with_len 1 page.lanes) ++ flat_map (node_name page) (range_with_len 1 size) ++ 10 ∷ []
+    ++ flat_map lane_label (range_with_len 1 page.lanes) ++ flat_map (node_label page) (range_with_len 1 size) ++ 10 ∷ []
 
 -- the page behind a past: versions stand between eight below the newest before it, and the newest at its end
 abbrev pub page_of : ℕ → Past → Past → Page
@@ -229,7 +229,7 @@ page_of lanes before after =
 abbrev pub page_text : ℕ → ℕ → ℕ → Past → Past → List ℕ
 page_text lanes size p before after =
     let page = page_of lanes before after in
-    page_head page size p (length after) ++ marks_of page size after ++ rest_of page size after ++ codes "</g>" ++ 10 ∷ []
+    page_head page size p (length after) ++ marks_of page size after ++ rest_shown page size after ++ codes "</g>" ++ 10 ∷ []
 
 -- the highest lane of entries, or 1
 abbrev pub lanes_of : Past → ℕ
@@ -262,7 +262,7 @@ drawing_of size entries =
     ++ flat_map (page_at size entries) (range_with_len 0 pages) ++ codes "</svg>" ++ 10 ∷ []
 
 -- an entry behind this past was drawn, and happened
-pub record IsDrawn (page : Page) (size : ℕ) (e : Entry) (past : Past) (old new : List ℕ) (scene : Scene) : Type 0 where
+pub record IsEntryDrawn (page : Page) (size : ℕ) (e : Entry) (past : Past) (old new : List ℕ) (scene : Scene) : Type 0 where
   pub text : new ≡ old ++ marks_at page size e past
   pub shows : ShowsScene size (e ∷ past) scene
 

@@ -4,7 +4,7 @@ ghost use Rattle.std.specs.Prelude.{◌≡◌, ◌++◌, ◌+◌, nat_lt, OnOk, 
 ghost use Rattle.std.specs.List.{flat_map};
 ghost use Rattle.run_drawing.specs.Drawing.{role_words, standing_words, colour_text, area_text, step_text, label_text, up_text, down_text, title_text, shapes_text, band_text, ended_band};
 
-use crate::scene::{Band, turns};
+use crate::scene::{Band, changes_node};
 use crate::shapes::{push_box, push_line, push_mark, push_words};
 use crate::span::{Page, Span};
 use history_facts::is_at;
@@ -236,7 +236,7 @@ fn push_ended_band(
     ensures { OnOk result (out.new.items
         ≡ out.old.items ++ ended_band page event.now heads place band) }
 {
-    if turns(event, heads.primary, band.view.node) && page.start.max(band.since) < place {
+    if changes_node(event, heads.primary, band.view.node) && page.start.max(band.since) < place {
         push_band(out, alloc, page, heads, place, band)?;
     }
     Ok(())

@@ -5,7 +5,7 @@ ghost use Rattle.std.specs.List.{flat_map};
 ghost use Rattle.run_drawing.specs.Drawing.{line_title, line_bar, ticket_words, ticket_title, ticket_bar, bar_text, class_of, said_of, ended_bar, sign_text, marks_text};
 
 use crate::bands::push_ended_bands;
-use crate::scene::{Bar, Kind, Scene, is_over};
+use crate::scene::{Kind, OpenBar, Scene, is_over};
 use crate::shapes::{push_box, push_escaped, push_line, push_mark, push_with, push_words};
 use crate::span::{Page, Span};
 use history_rules::{Entry, Event};
@@ -16,7 +16,7 @@ use std::alloc::Global;
 
 /// What is told of a line.
 #[tactic(auto, unfolding(crate::specs::Drawing::line_title))]
-fn line_title(alloc: Global, bar: Bar, span: Span, said: &[u8]) -> Result<Vec<u8>, NoMemory>
+fn line_title(alloc: Global, bar: OpenBar, span: Span, said: &[u8]) -> Result<Vec<u8>, NoMemory>
     ensures { IfOk result (λ text. text.items ≡ line_title bar span said.now) }
 {
     let mut text = Vec::new(alloc);
@@ -32,7 +32,7 @@ fn line_title(alloc: Global, bar: Bar, span: Span, said: &[u8]) -> Result<Vec<u8
 fn push_line_bar(
     out: &mut Vec<u8>,
     alloc: Global,
-    bar: Bar,
+    bar: OpenBar,
     span: Span,
     class: &[u8],
     said: &[u8],
@@ -57,7 +57,7 @@ fn push_line_bar(
 
 /// Puts the name of a ticket at the end.
 #[tactic(auto, unfolding(crate::specs::Drawing::ticket_words))]
-fn push_ticket(out: &mut Vec<u8>, alloc: Global, bar: Bar, t: TicketNo) -> Result<(), NoMemory>
+fn push_ticket(out: &mut Vec<u8>, alloc: Global, bar: OpenBar, t: TicketNo) -> Result<(), NoMemory>
     ensures { OnOk result (out.new.items ≡ out.old.items ++ ticket_words bar t.0) }
 {
     push_with(out, alloc, b"ticket ", u128::from(t.0))?;
@@ -68,7 +68,7 @@ fn push_ticket(out: &mut Vec<u8>, alloc: Global, bar: Bar, t: TicketNo) -> Resul
 #[tactic(auto, unfolding(crate::specs::Drawing::ticket_title))]
 fn ticket_title(
     alloc: Global,
-    bar: Bar,
+    bar: OpenBar,
     span: Span,
     t: TicketNo,
     v: Version,
@@ -86,7 +86,7 @@ fn ticket_title(
 fn push_ticket_bar(
     out: &mut Vec<u8>,
     alloc: Global,
-    bar: Bar,
+    bar: OpenBar,
     span: Span,
     n: NodeNo,
     t: TicketNo,
@@ -117,7 +117,7 @@ pub fn push_bar(
     right: usize,
     class: &[u8],
     said: &[u8],
-    bar: Bar,
+    bar: OpenBar,
 ) -> Result<(), NoMemory>
     ensures { OnOk result (out.new.items
         ≡ out.old.items ++ bar_text page right class.now said.now bar) }
@@ -137,7 +137,7 @@ pub fn push_bars(
     right: usize,
     class: &[u8],
     said: &[u8],
-    bars: &[Bar],
+    bars: &[OpenBar],
 ) -> Result<(), NoMemory>
     ensures { OnOk result (out.new.items
         ≡ out.old.items ++ flat_map (bar_text page right class.now said.now) bars.now) }
@@ -174,7 +174,7 @@ fn push_ended_bar(
     entry: &Entry,
     right: usize,
     said: &[u8],
-    bar: Bar,
+    bar: OpenBar,
 ) -> Result<(), NoMemory>
     ensures { OnOk result (out.new.items
         ≡ out.old.items ++ ended_bar page entry.now right said.now bar) }
@@ -193,7 +193,7 @@ pub fn push_ended_bars(
     entry: &Entry,
     right: usize,
     said: &[u8],
-    bars: &[Bar],
+    bars: &[OpenBar],
 ) -> Result<(), NoMemory>
     ensures { OnOk result (out.new.items
         ≡ out.old.items ++ flat_map (ended_bar page entry.now right said.now) bars.now) }

@@ -6,7 +6,7 @@ ghost use Rattle.history_rules.specs.Nodes.{Past, newest_version};
 ghost use Rattle.run_picture.specs.Views.{heads_of};
 ghost use Rattle.run_drawing.specs.Scenes.{ShowsScene};
 ghost use Rattle.run_drawing.specs.Shapes.{word_text};
-ghost use Rattle.run_drawing.specs.Drawing.{entries_text, span_from, rest_text, lane_name, node_name, page_height, pages_height, page_head, page_of, first_of, IsDrawn, AreDrawn, IsPageDrawn};
+ghost use Rattle.run_drawing.specs.Drawing.{entries_text, span_from, rest_text, lane_label, node_label, page_height, pages_height, page_head, page_of, first_of, IsEntryDrawn, AreDrawn, IsPageDrawn};
 
 use crate::bands::push_bands;
 use crate::bars::{push_bars, push_marks};
@@ -26,8 +26,8 @@ pub fn page_height(lanes: u8, size: u8) -> u128
     60 + 12 * u128::from(lanes) + 60 * u128::from(size)
 }
 
-fn push_lane_name(out: &mut Vec<u8>, alloc: Global, lane: u64) -> Result<(), NoMemory>
-    ensures { OnOk result (out.new.items ≡ out.old.items ++ lane_name lane) }
+fn push_lane_label(out: &mut Vec<u8>, alloc: Global, lane: u64) -> Result<(), NoMemory>
+    ensures { OnOk result (out.new.items ≡ out.old.items ++ lane_label lane) }
 {
     let name = format!(in alloc; "lane {lane}")?;
     push_words(
@@ -40,23 +40,23 @@ fn push_lane_name(out: &mut Vec<u8>, alloc: Global, lane: u64) -> Result<(), NoM
     )
 }
 
-fn push_lane_names(out: &mut Vec<u8>, alloc: Global, lanes: u8) -> Result<(), NoMemory>
+fn push_lane_labels(out: &mut Vec<u8>, alloc: Global, lanes: u8) -> Result<(), NoMemory>
     ensures { OnOk result (out.new.items
-        ≡ out.old.items ++ flat_map lane_name (range_with_len 1 lanes)) }
+        ≡ out.old.items ++ flat_map lane_label (range_with_len 1 lanes)) }
 {
     for next in 0..lanes {
-        push_lane_name(out, alloc, u64::from(next) + 1)?;
+        push_lane_label(out, alloc, u64::from(next) + 1)?;
     }
     Ok(())
 }
 
-fn push_node_name(
+fn push_node_label(
     out: &mut Vec<u8>,
     alloc: Global,
     page: Page,
     node: NodeNo,
 ) -> Result<(), NoMemory>
-    ensures { OnOk result (out.new.items ≡ out.old.items ++ node_name page node.0) }
+    ensures { OnOk result (out.new.items ≡ out.old.items ++ node_label page node.0) }
 {
     let floor = page.floor(node);
     push_box(out, alloc, b"w", 64, floor.saturating_sub(44), 1100, 44)?;
@@ -72,13 +72,13 @@ fn push_node_name(
     )
 }
 
-fn push_node_names(out: &mut Vec<u8>, alloc: Global, page: Page, size: u8) -> Result<(), NoMemory>
+fn push_node_labels(out: &mut Vec<u8>, alloc: Global, page: Page, size: u8) -> Result<(), NoMemory>
     ensures { OnOk result (out.new.items
-        ≡ out.old.items ++ flat_map (node_name page) (range_with_len 1 size)) }
+        ≡ out.old.items ++ flat_map (node_label page) (range_with_len 1 size)) }
 {
     for next in 0..size {
         prove!(next < size);
-        push_node_name(out, alloc, page, NodeNo(next + 1))?;
+        push_node_label(out, alloc, page, NodeNo(next + 1))?;
     }
     Ok(())
 }
@@ -114,8 +114,8 @@ fn push_page_head(
     push_with(out, alloc, b"<g transform='translate(0 ", top)?;
     out.extend_from_slice(b")'>\n")?;
     push_range(out, alloc, page, end)?;
-    push_lane_names(out, alloc, page.lanes)?;
-    push_node_names(out, alloc, page, size)?;
+    push_lane_labels(out, alloc, page.lanes)?;
+    push_node_labels(out, alloc, page, size)?;
     out.push(b'\n')?;
     Ok(())
 }
@@ -132,7 +132,7 @@ fn push_entry(
     requires { place + 1 < 2 ^ 64 }
     ensures { OnOk result ((size : ℕ) (past : Past) → length past ≡ place
         → ShowsScene size past scene.old
-        → IsDrawn page size entry.now past out.old.items out.new.items scene.new) }
+        → IsEntryDrawn page size entry.now past out.old.items out.new.items scene.new) }
 {
     scene.begin(entry, place)?;
     push_marks(out, alloc, page, entry, place, scene)?;

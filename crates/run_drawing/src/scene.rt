@@ -3,7 +3,7 @@
 ghost use Rattle.std.specs.Prelude.{◌≡◌, [], map, not, OnOk, IfOk};
 ghost use Rattle.std.specs.List.{filter, list_any};
 ghost use Rattle.history_rules.specs.Lines.{is_reply};
-ghost use Rattle.run_drawing.specs.Scenes.{turns, band_of, bands_of, is_line_of, line_begun, ticket_begun, ends_ticket, is_over, ShowsScene, IsBegun, IsStepped, band_by};
+ghost use Rattle.run_drawing.specs.Scenes.{changes_node, band_of, bands_of, is_line_of, line_begun, ticket_begun, ends_ticket, is_over, ShowsScene, AreBarsBegun, IsStepped, band_by};
 
 use history_facts::{is_at, is_start, same_at};
 use history_rules::{Entry, Event};
@@ -29,15 +29,15 @@ pub enum Kind {
 
 /// A line, or a ticket that a line opened, and the place since which it is open.
 #[derive(Clone, Copy, Debug, PartialEq, Eq)]
-pub struct Bar {
+pub struct OpenBar {
     pub at: At,
     pub kind: Kind,
     pub since: usize,
 }
 
 /// Whether an event changes what is shown of a node, where this was the primary.
-pub fn turns(event: &Event, primary: Option<NodeNo>, n: NodeNo) -> bool
-    ensures { result ≡ turns event.now primary n.0 }
+pub fn changes_node(event: &Event, primary: Option<NodeNo>, n: NodeNo) -> bool
+    ensures { result ≡ changes_node event.now primary n.0 }
 {
     match event {
         Event::Published { .. } | Event::Promoted { .. } => true,
@@ -62,7 +62,7 @@ impl Band {
     fn after(self, event: &Event, primary: Option<NodeNo>, place: usize) -> Self
         ensures { result ≡ band_by event.now primary place self }
     {
-        let since = if turns(event, primary, self.view.node) {
+        let since = if changes_node(event, primary, self.view.node) {
             place
         } else {
             self.since
@@ -93,7 +93,7 @@ fn step_bands(bands: &mut Vec<Band>, event: &Event, primary: Option<NodeNo>, pla
     }
 }
 
-fn is_line_of(at: At, bar: &Bar) -> bool
+fn is_line_of(at: At, bar: &OpenBar) -> bool
     ensures { result ≡ is_line_of at bar.now }
 {
     match bar.kind {
@@ -102,7 +102,7 @@ fn is_line_of(at: At, bar: &Bar) -> bool
     }
 }
 
-fn has_line(at: At, bars: &[Bar]) -> bool
+fn has_line(at: At, bars: &[OpenBar]) -> bool
     ensures { result ≡ list_any (is_line_of at) bars.now }
 {
     bars.iter().any(|bar| is_line_of(at, bar))
@@ -140,13 +140,13 @@ fn is_reply(event: &Event) -> bool
 }
 
 /// Opens the bar of a ticket.
-fn begin_ticket(bars: &mut Vec<Bar>, entry: &Entry, place: usize) -> Result<(), NoMemory>
+fn begin_ticket(bars: &mut Vec<OpenBar>, entry: &Entry, place: usize) -> Result<(), NoMemory>
     ensures { OnOk result (bars.new.items ≡ ticket_begun entry.now place bars.old.items) }
 {
     match &entry.event {
         Event::Opened { n, t, v } => {
             if t.0 != 0 && bars.len() < 32 {
-                bars.push(Bar {
+                bars.push(OpenBar {
                     at: entry.at,
                     kind: Kind::Ticket {
                         n: *n,
@@ -163,11 +163,11 @@ fn begin_ticket(bars: &mut Vec<Bar>, entry: &Entry, place: usize) -> Result<(), 
 }
 
 /// Opens the bar of an entry's line, unless it is open.
-fn begin_line(bars: &mut Vec<Bar>, entry: &Entry, place: usize) -> Result<(), NoMemory>
+fn begin_line(bars: &mut Vec<OpenBar>, entry: &Entry, place: usize) -> Result<(), NoMemory>
     ensures { OnOk result (bars.new.items ≡ line_begun entry.now place bars.old.items) }
 {
     if (is_start(&entry.event) || is_reply(&entry.event)) && !has_line(entry.at, bars.as_slice()) {
-        bars.push(Bar {
+        bars.push(OpenBar {
             at: entry.at,
             kind: Kind::Line,
             since: place,
@@ -187,7 +187,7 @@ fn ends_ticket(event: &Event, own: bool, n: NodeNo, t: TicketNo) -> bool
 }
 
 /// Whether a bar ends with an entry.
-pub fn is_over(entry: &Entry, bar: &Bar) -> bool
+pub fn is_over(entry: &Entry, bar: &OpenBar) -> bool
     ensures { result ≡ is_over entry.now bar.now }
 {
     match bar.kind {
@@ -198,7 +198,7 @@ pub fn is_over(entry: &Entry, bar: &Bar) -> bool
     }
 }
 
-fn end_bars(bars: &mut Vec<Bar>, entry: &Entry)
+fn end_bars(bars: &mut Vec<OpenBar>, entry: &Entry)
     ensures { bars.new.items ≡ filter (λ bar. not (is_over entry.now bar)) bars.old.items }
 {
     bars.retain(|bar| !is_over(entry, bar));
@@ -209,7 +209,7 @@ fn end_bars(bars: &mut Vec<Bar>, entry: &Entry)
 pub struct Scene {
     pub heads: Heads,
     pub bands: Vec<Band>,
-    pub bars: Vec<Bar>,
+    pub bars: Vec<OpenBar>,
 }
 
 impl Scene {
@@ -225,7 +225,7 @@ impl Scene {
 
     /// Opens the bars of an entry that is to come.
     pub fn begin(&mut self, entry: &Entry, place: usize) -> Result<(), NoMemory>
-        ensures { OnOk result (IsBegun entry.now place self.old self.new) }
+        ensures { OnOk result (AreBarsBegun entry.now place self.old self.new) }
     {
         begin_ticket(&mut self.bars, entry, place)?;
         begin_line(&mut self.bars, entry, place)?;

@@ -13,7 +13,7 @@ use Rattle.history_rules.proofs.PastLemmas.{past_next}
 use Rattle.run_picture.specs.declared.shown.NodeView.{NodeView}
 use Rattle.run_picture.specs.declared.shown.PlaceView.{PlaceView}
 use Rattle.run_picture.specs.Views.{views_of, heads_by, view_by, ShowsPlace}
-use Rattle.run_picture.specs.Picture.{row_text, row_of, rows_of}
+use Rattle.run_picture.specs.Picture.{row_text, row_shown, rows_shown}
 
 -- a number of 64 bits has at most twenty digits
 pub few_digits : (n : ℕ) → n < 2 ^ 64 → length (decimal n) ≤ 20
@@ -46,15 +46,15 @@ each_more f a n j before is =
 -- the rows of one entry more
 pub rows_next : (width size : ℕ) (entries : List Entry) (i place : ℕ) (e : Entry) (old now new : List ℕ) (views : List NodeView) (view : PlaceView)
     → i < length entries → e ≡ get_or entries i e → place ≡ i → ShowsPlace size (e ∷ reverse (take i entries)) view → views ≡ view.nodes.items
-    → now ≡ old ++ rows_of width size (reverse (take i entries)) → new ≡ now ++ row_text width (place + 1) e view.heads views
-    → new ≡ old ++ rows_of width size (reverse (take (i + 1) entries))
+    → now ≡ old ++ rows_shown width size (reverse (take i entries)) → new ≡ now ++ row_text width (place + 1) e view.heads views
+    → new ≡ old ++ rows_shown width size (reverse (take (i + 1) entries))
 rows_next width size entries i place e old now new views view within is here shows viewed was put =
     let past : Past = reverse (take i entries) in
     let count : place ≡ length past = here ∙ sym (length-reverse (take i entries) ∙ length-take-le i entries (omega (arith, within))) in
-    let row : row_text width (place + 1) e view.heads views ≡ row_of width size e past =
+    let row : row_text width (place + 1) e view.heads views ≡ row_shown width size e past =
     λ k. row_text width (count k + 1) e (shows.heads k) ((viewed ∙ shows.nodes) k) in
-    put ∙ (λ k. was k ++ row k) ∙ append_assoc old (rows_of width size past) (row_of width size e past)
-    ∙ ap (λ (p : Past). old ++ rows_of width size p) (sym (past_next entries i e within is))
+    put ∙ (λ k. was k ++ row k) ∙ append_assoc old (rows_shown width size past) (row_shown width size e past)
+    ∙ ap (λ (p : Past). old ++ rows_shown width size p) (sym (past_next entries i e within is))
 
 -- what is shown of the place behind one entry more
 pub shows_next : (size : ℕ) (entries : List Entry) (i : ℕ) (e : Entry) (view : PlaceView) → i < length entries → e ≡ get_or entries i e

@@ -87,12 +87,12 @@ row_text width place e heads views =
     ++ at_right 4 (decimal e.at.lane.0) ++ text_of_entry e
 
 -- the row of an entry after this past, of so many nodes: what they show together
-abbrev pub row_of : ℕ → ℕ → Entry → Past → List ℕ
-row_of width size e past = row_text width (length past + 1) e (heads_of (e ∷ past)) (views_of size (e ∷ past))
+abbrev pub row_shown : ℕ → ℕ → Entry → Past → List ℕ
+row_shown width size e past = row_text width (length past + 1) e (heads_of (e ∷ past)) (views_of size (e ∷ past))
 
 -- the rows of a past, the oldest entry first
-abbrev pub rows_of : ℕ → ℕ → Past → List ℕ
-rows_of width size = over [] (λ e past rows. rows ++ row_of width size e past)
+abbrev pub rows_shown : ℕ → ℕ → Past → List ℕ
+rows_shown width size = over [] (λ e past rows. rows ++ row_shown width size e past)
 
 -- what stands over the column of a node
 abbrev pub heading_text : ℕ → ℕ → List ℕ
@@ -123,4 +123,4 @@ abbrev pub picture_of : ℕ → List Entry → List ℕ
 picture_of size entries =
     let past = reverse entries in
     let width = column_width (newest_version past) in
-    head_text width size ++ rows_of width size past
+    head_text width size ++ rows_shown width size past

@@ -2,7 +2,7 @@
 
 ghost use Rattle.std.specs.Prelude.{◌≡◌, ◌++◌, OnOk, reverse};
 ghost use Rattle.std.specs.List.{flat_map, range_with_len};
-ghost use Rattle.run_picture.specs.Picture.{cell_text, row_text, rows_of, heading_text, legend_text, columns_text, head_text};
+ghost use Rattle.run_picture.specs.Picture.{cell_text, row_text, rows_shown, heading_text, legend_text, columns_text, head_text};
 
 use crate::columns::{newest, push_cell, push_left, push_number, push_right};
 use crate::shown::{Heads, NodeView, PlaceView};
@@ -59,7 +59,7 @@ pub fn push_rows(
     entries: &[Entry],
 ) -> Result<(), NoMemory>
     ensures { OnOk result (out.new.items
-        ≡ out.old.items ++ rows_of width size (reverse entries.now)) }
+        ≡ out.old.items ++ rows_shown width size (reverse entries.now)) }
 {
     let mut view = PlaceView::first(alloc, size)?;
     let mut place = 0;
