@@ -95,7 +95,8 @@ pub fn run_script<R: Threads + Wait + Sync, G: Gate + Sync>(
     sent::<Vec<Option<NodePlace<MemDir>>>>();
     sent::<ClusterState<MemDir>>();
     sent::<Cluster<MemDir>>();
-    sent::<TransLog<MemDir>>();
+    sent::<Option<TransLog<MemDir>>>();
+    sent::<Site<MemDir>>();
     let setup = Setup {
         nodes: script.nodes,
         log: script.log,

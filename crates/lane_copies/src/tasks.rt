@@ -175,8 +175,7 @@ pub fn do_posted<R: Wait, D: FaultDir + Drop, G: Gate>(
 ) -> Result<bool, NoMemory>
     requires { IsIdleLane lanes.now.setup.log lanes.now.lock.now lane.old }
     ensures number { lane.new.number ≡ lane.old.number }
-    ensures heard { OnOk result (HasHeard lanes.now.setup.log lanes.now.lock.now lane.old lane.new)
-        }
+    ensures heard { OnOk result (HasHeard lanes.now.setup.log lanes.now.lock.now lane.old lane.new) }
 {
     let at = At {
         lane: lane.number,

@@ -3,12 +3,13 @@ use Rattle.std.proofs.Common.{◌≡◌, ℕ, Bool, true, false, ◌&&◌, ◌||
 use Rattle.std.specs.Prelude.{if◌then◌else◌}
 use Rattle.std.specs.Option.{option_or}
 use Rattle.std.specs.List.{flat_map, list_all, list_any}
-use Rattle.std.proofs.lemmas.Bool.{and_parts, eq-eqb}
+use Rattle.std.proofs.lemmas.Bool.{and_parts, and_right, eqb-true}
 use Rattle.std.proofs.lemmas.Bool.Decides.{nat_tests}
 use Rattle.std.proofs.lemmas.Option.{none-some}
 use Rattle.std.proofs.Math.Seq.{drop-cons}
 use Rattle.nrt_base.specs.declared.numbers.At.{At}
 use Rattle.nrt_base.specs.declared.numbers.LaneNo.{LaneNo}
+use Rattle.history_tables.proofs.RowLemmas.{same_at_self}
 use Rattle.history_rules.specs.Nodes.{Past}
 use Rattle.history_rules.specs.Lines.{same_at, is_answered}
 use Rattle.script_serving.specs.declared.script.Line.{Line}
@@ -99,18 +100,8 @@ pub numbered_later : {X : Type 0} (f : X → List Line) (n : ℕ) (xs : List X) 
 numbered_later f n xs i x low item so_far none =
     sym (numbered_behind n (f x) (flat_map f (drop (i + 1) xs)) (sym none)) ∙ sym (ap (line_numbered n) (opened f xs i x low item)) ∙ so_far
 
-same_number : (a b : ℕ) → nat_eq a b ≡ true → a ≡ b
-same_number a b h = grind (arith, nat_tests)
-
 apart : (a b n : ℕ) → nat_eq a n ≡ false → b ≡ n → nat_eq a b ≡ false
 apart a b n h e = grind (arith, nat_tests)
-
-no_second : (a b : Bool) → b ≡ false → (a && b) ≡ false
-no_second true b h = h
-no_second false b h = refl
-
-itself : (at : At) → same_at at at ≡ true
-itself at = rw (eq-eqb at.lane.0 at.lane.0 refl) (eq-eqb at.line.0 at.line.0 refl)
 
 -- what the line of a number shows: it has the number, it stands there, and what it asks for is asked for there
 pub record IsNumbered (n : ℕ) (lines : List Line) (line : Line) : Type 0 where
@@ -126,16 +117,16 @@ numbered_is n (x ∷ xs) line h = by_test (x.at.line.0 == n) refl (numbered_is n
     mine y e is =
         let same : x ≡ y = cc in
         subst (λ (z : Line). IsNumbered n (x ∷ xs) z) same (record {
-          number = same_number x.at.line.0 n is;
-          there = rw (itself x.at) refl;
-          command = rw (itself x.at) refl;
+          number = eqb-true x.at.line.0 n is;
+          there = rw (same_at_self x.at) refl;
+          command = rw (same_at_self x.at) refl;
         })
 
     by_test : (t : Bool) → (x.at.line.0 == n) ≡ t → (line_numbered n xs ≡ Some line → IsNumbered n xs line) → IsNumbered n (x ∷ xs) line
     by_test true e later = mine line (rw e at h) e
     by_test false e later =
         let ih : IsNumbered n xs line = later (rw e at h) in
-        let other : same_at x.at line.at ≡ false = no_second (x.at.lane.0 == line.at.lane.0) (x.at.line.0 == line.at.line.0) (apart x.at.line.0 line.at.line.0 n e ih.number) in
+        let other : same_at x.at line.at ≡ false = and_right (x.at.lane.0 == line.at.lane.0) (x.at.line.0 == line.at.line.0) (apart x.at.line.0 line.at.line.0 n e ih.number) in
         record { number = ih.number; there = rw other ih.there; command = rw other ih.command }
 
 -- where no line has the number, none stands at a place of it
@@ -146,15 +137,15 @@ none_numbered n (x ∷ xs) at h e = by_test (x.at.line.0 == n) refl (λ k. none_
     by_test : (t : Bool) → (x.at.line.0 == n) ≡ t → (line_numbered n xs ≡ None → command_at xs at ≡ None) → command_at (x ∷ xs) at ≡ None
     by_test true is ih = absurd (none-some x (sym (rw is at h)))
     by_test false is ih =
-        let other : same_at x.at at ≡ false = no_second (x.at.lane.0 == at.lane.0) (x.at.line.0 == at.line.0) (apart x.at.line.0 at.line.0 n is e) in
+        let other : same_at x.at at ≡ false = and_right (x.at.lane.0 == at.lane.0) (x.at.line.0 == at.line.0) (apart x.at.line.0 at.line.0 n is e) in
         rw other (ih (rw is at h))
 
 -- where something is asked for, a line stands
-pub asked_there : (lines : List Line) (at : At) (command : LineCommand) → command_at lines at ≡ Some command → has_line lines at ≡ true
-asked_there [] at command h = absurd (none-some command h)
-asked_there (x ∷ xs) at command h = by_test (same_at x.at at) refl (asked_there xs at command)
+pub stands_there : (lines : List Line) (at : At) → (command_at lines at ≡ None → ⊥) → has_line lines at ≡ true
+stands_there [] at h = absurd (h refl)
+stands_there (x ∷ xs) at h = by_test (same_at x.at at) refl (stands_there xs at)
   where
-    by_test : (t : Bool) → same_at x.at at ≡ t → (command_at xs at ≡ Some command → has_line xs at ≡ true) → has_line (x ∷ xs) at ≡ true
+    by_test : (t : Bool) → same_at x.at at ≡ t → ((command_at xs at ≡ None → ⊥) → has_line xs at ≡ true) → has_line (x ∷ xs) at ≡ true
     by_test true e ih = rw e refl
     by_test false e ih = rw e (ih (rw e at h))
 

@@ -1,6 +1,7 @@
 -- Entries that fit: what they are asked for by, and that one text has one such entry.
 use Rattle.std.proofs.Common.{◌≡◌, ℕ, Bool, true, false, ◌||◌, List, [], ◌∷◌, map, Option, Some, None, Result, Ok, Err, IfOk, refl, sym, ap, subst, ◌∙◌, ◌↔◌}
 use Rattle.std.proofs.lemmas.Bool.{false≢true}
+use Rattle.std.proofs.lemmas.Option.{none-some}
 use Rattle.nrt_base.specs.declared.numbers.At.{At}
 use Rattle.nrt_base.specs.declared.numbers.LineNo.{LineNo}
 use Rattle.documents.specs.declared.operation.Op.{Op}
@@ -18,40 +19,20 @@ use Rattle.report_reading.specs.Readings.{op_told, query_of_line, most_of_line, 
 use Rattle.report_reading.proofs.LineLaws.{narrow_fits}
 use Rattle.script_serving.specs.declared.script.Line.{Line}
 use Rattle.script_serving.specs.declared.script.LineCommand.{LineCommand}
-use Rattle.script_serving.specs.declared.script.LineCommand.TheVariants.{Put, Delete, Drop, Publish, Copy, Settle, Search, Ask, Commit, Merge, Drain}
+use Rattle.script_serving.specs.declared.script.LineCommand.TheVariants.{Put, Delete, Drop, Search, Ask, Merge, Drain}
 use Rattle.script_serving.specs.declared.script.Script.{Script}
 use Rattle.script_serving.specs.Form.{IsInForm}
 use Rattle.script_serving.specs.Lines.{lines_of, lines_of_lane, command_at, earlier_answered, earlier_phases_answered}
 use Rattle.script_serving.specs.Replays.{due}
-use Rattle.script_serving.specs.Serves.{Begins, First, Follows, Suits, SuitsFault, FitsTurn, FitsReplay, Fits, is_merge_fault}
+use Rattle.script_serving.specs.Serves.{Begins, First, Suits, SuitsFault, FitsTurn, FitsReplay, Fits, is_merge_fault}
 use Rattle.serving_laws.proofs.Unprinted.{OpOf, QueryOf, MostOf, OfCommand, Unprinted, fits_unprinted, one_place}
 use Rattle.report_judge.specs.Judgements.{FitsNext}
 use Rattle.report_judge.specs.Places.{place_of, earlier_places, line_numbered, place_told, command_told}
 use Rattle.report_judge.specs.Serving.{is_fault, is_merge}
 use Rattle.report_judge.specs.Walks.{IsEntryTold}
-use Rattle.report_judge.proofs.PlaceLaws.{earlier_is, numbered_is, none_numbered, asked_there, lane_command}
+use Rattle.report_judge.proofs.PlaceLaws.{earlier_is, numbered_is, none_numbered, stands_there, lane_command}
 
 -- ---- events
-
--- a line that is answered at once has no entry behind its first
-abbrev pub is_short : LineCommand → Bool
-is_short Publish = false
-is_short (Copy n) = false
-is_short Settle = false
-is_short (Search n query) = false
-is_short (Ask t query) = false
-is_short (Commit n) = false
-is_short command = true
-
-pub none_follows : (command : LineCommand) (last e : Event) → is_short command ≡ true → Follows command last e → ⊥
-none_follows Publish last e short h = false≢true short
-none_follows (Copy n) last e short h = false≢true short
-none_follows Settle last e short h = false≢true short
-none_follows (Search n query) last e short h = false≢true short
-none_follows (Ask t query) last e short h = false≢true short
-none_follows (Commit n) last e short h = false≢true short
-none_follows command last (Refused cause) short h = false≢true h
-none_follows command last e short h = h
 
 -- an entry that refuses nothing is first where it begins the line
 pub first_begins : (command : LineCommand) (at : At) (past : Past) (e : Event) → ((cause : Cause) → e ≡ Refused cause → ⊥) → First command at past None e ↔ Begins command past e
@@ -182,16 +163,18 @@ pub told_there : (script : Script) (ops : List Op) (e : Entry) (line : Line) →
     → as_told ops line.command e.event ≡ e.event
 told_there script ops e line told found = ap (λ (c : LineCommand). as_told ops c e.event) (sym (command_is script e.at.line.0 line found)) ∙ told.told
 
-never_known : (ops : List Op) (lines : List Line) (past : Past) (at : At) (e : Event) → Fits ops lines past at None e → ⊥
-never_known [] lines past at e h = h
-never_known (op ∷ ops) lines past at e h = h
+-- nothing fits where no line stands
+none_asked : (ops : List Op) (lines : List Line) (past : Past) (at : At) (command : Option LineCommand) (e : Event) → command ≡ None → Fits ops lines past at command e → ⊥
+none_asked [] lines past at None e none h = h
+none_asked (op ∷ ops) lines past at None e none h = h
+none_asked ops lines past at (Some command) e none h = none-some command (sym none)
 
 -- an entry whose number no line has does not fit
 pub none_fits : (script : Script) (past : Past) (e : Entry) → IsInForm script → line_numbered e.at.line.0 (lines_of script) ≡ None → FitsNext script past e → ⊥
 none_fits script past e form none fits =
     let lines = lines_of_lane e.at.lane.0 script in
     let nothing : command_at lines e.at ≡ None = lane_command script e.at form ∙ none_numbered e.at.line.0 (lines_of script) e.at none refl in
-    never_known (due script.log past) lines past e.at e.event (subst (λ (c : Option LineCommand). Fits (due script.log past) lines past e.at c e.event) nothing fits.lane)
+    none_asked (due script.log past) lines past e.at (command_at lines e.at) e.event nothing fits.lane
 
 module _ (script : Script) (past : Past) (e : Entry) (command : LineCommand) (here : StandsAt script e.at command) where
   abbrev FitsLane : Type 0
@@ -246,10 +229,10 @@ told_fitting script past e form fits = by_line (line_numbered e.at.line.0 (lines
 
     by_command : (line : Line) → line_numbered e.at.line.0 (lines_of script) ≡ Some line → (c : Option LineCommand) → command_at lines e.at ≡ c → IsEntryTold script (due script.log past) e
     by_command line found None none =
-        absurd (never_known (due script.log past) lines past e.at e.event (subst (λ (c : Option LineCommand). Fits (due script.log past) lines past e.at c e.event) none fits.lane))
+        absurd (none_asked (due script.log past) lines past e.at (command_at lines e.at) e.event none fits.lane)
     by_command line found (Some command) asked =
         let numbered = numbered_is e.at.line.0 (lines_of script) line found in
-        let there = asked_there (lines_of script) e.at command (sym (lane_command script e.at form) ∙ asked) in
+        let there = stands_there (lines_of script) e.at (λ none. none-some command (sym (lane_command script e.at form ∙ none) ∙ asked)) in
         let place : e.at ≡ line.at = one_place (lines_of script) e.at line.at form.distinct there numbered.there (ap line_number (sym numbered.number)) in
         let own : Some line.command ≡ Some command = sym (stands script e.at line form found place).lane ∙ asked in
         let unprinted = fits_unprinted (due script.log past) lines past e.at (Some command) e.event (subst (λ (c : Option LineCommand). Fits (due script.log past) lines past e.at c e.event) asked fits.lane) in

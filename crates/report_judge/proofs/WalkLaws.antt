@@ -24,9 +24,10 @@ use Rattle.report_judge.specs.Judgements.{GoesWell, FitsNext, GoesWellTo, Begins
 use Rattle.report_judge.specs.Places.{place_of, unanswered_place}
 use Rattle.report_judge.proofs.PlaceLaws.{unanswered_is, none_unanswered}
 use Rattle.report_judge.specs.Readings.{IsEntryOf, IsEntryRead}
-use Rattle.report_judge.specs.declared.judging.Stop.{Stop}
-use Rattle.report_judge.specs.declared.judging.Stop.TheVariants.{Whole, Short, Unserved, Unread}
+use Rattle.report_judge.specs.declared.judging.WalkEnd.{WalkEnd}
+use Rattle.report_judge.specs.declared.judging.WalkEnd.TheVariants.{Whole, Short, Unserved, Unread}
 use Rattle.report_judge.specs.Walks.{ServesTo, NoneFits, IsStop, IsWalk}
+use Rattle.serving_laws.proofs.ReplayLemmas.{serves_back}
 use Rattle.report_judge.proofs.ServingLaws.{one_fitting, told_fitting}
 
 -- a text that begins with the line of an entry has this as its first line
@@ -74,7 +75,7 @@ serves_next script report past text line rest e serves cut behind same fits =
     }
 
 -- a report that was read so far
-pub walk_ends : (script : Script) (report : List ℕ) (h : History) (ended : Stop) (items : List Entry) (rest : List ℕ) → h.nodes ≡ script.nodes → h.entries ≡ items
+pub walk_ends : (script : Script) (report : List ℕ) (h : History) (ended : WalkEnd) (items : List Entry) (rest : List ℕ) → h.nodes ≡ script.nodes → h.entries ≡ items
     → ServesTo script report (reverse items) rest → IsStop script (reverse items) rest ended → IsWalk script report h ended
 walk_ends script report h ended items rest nodes entries serves end = record {
   nodes = nodes;
@@ -151,10 +152,6 @@ cut_at xs i x there =
       count = length-take-le i xs (omega (arith, low));
     }
 
-lanes_behind : (script : Script) (newer past : Past) → ServesLanes script (newer ++ past) → ServesLanes script past
-lanes_behind script [] past h = h
-lanes_behind script (e ∷ newer) past h = lanes_behind script newer past h.1
-
 phases_behind : (script : Script) (newer past : Past) → ServesPhases (lines_of script) script.phases (newer ++ past) → ServesPhases (lines_of script) script.phases past
 phases_behind script [] past h = h
 phases_behind script (e ∷ newer) past h = phases_behind script newer past h.1
@@ -168,7 +165,7 @@ turned xs front back x whole =
 
 -- ---- the judgement
 
-module _ (script : Script) (report : List ℕ) (h : History) (stop : Stop) (walk : IsWalk script report h stop) where
+module _ (script : Script) (report : List ℕ) (h : History) (stop : WalkEnd) (walk : IsWalk script report h stop) where
   abbrev past : Past
   past = reverse h.entries
 
@@ -182,7 +179,7 @@ module _ (script : Script) (report : List ℕ) (h : History) (stop : Stop) (walk
   goes : IsLegal h → GoesWellTo script report past walk.rest
   goes legal = record { well = well legal; text = walk.serves.text }
 
-  abbrev Ends : Stop → Type 0
+  abbrev Ends : WalkEnd → Type 0
   Ends s = IsStop script past walk.rest s
 
   whole_text : walk.rest ≡ [] → text_of h ≡ report
@@ -234,7 +231,7 @@ module _ (script : Script) (report : List ℕ) (h : History) (stop : Stop) (walk
       let front = take at h.entries in
       let before = reverse front in
       let around : past ≡ reverse cut.back ++ breaks.entry ∷ before = turned h.entries front cut.back breaks.entry cut.whole in
-      let lanes = lanes_behind script (reverse cut.back) (breaks.entry ∷ before) (subst (ServesLanes script) around walk.serves.lanes) in
+      let lanes = serves_back script (reverse cut.back) (breaks.entry ∷ before) (subst (ServesLanes script) around walk.serves.lanes) in
       let phases = phases_behind script (reverse cut.back) (breaks.entry ∷ before) (subst (ServesPhases (lines_of script) script.phases) around walk.serves.phases) in
       let fits : FitsNext script before breaks.entry = record { lane = lanes.0; phase = phases.0 } in
       let left = flat_map text_of_entry (breaks.entry ∷ cut.back) ++ walk.rest in

@@ -14,8 +14,8 @@ use Rattle.script_serving.specs.Refusals.{put_publishes}
 use Rattle.script_serving.specs.Serves.{ServesLanes, ServesPhases, Serves}
 use Rattle.documents.specs.declared.operation.Op.{Op}
 use Rattle.report_judge.specs.declared.judging.Shown.{Shown}
-use Rattle.report_judge.specs.declared.judging.Stop.{Stop}
-use Rattle.report_judge.specs.declared.judging.Stop.TheVariants.{Whole, Short, Unserved, Unread}
+use Rattle.report_judge.specs.declared.judging.WalkEnd.{WalkEnd}
+use Rattle.report_judge.specs.declared.judging.WalkEnd.TheVariants.{Whole, Short, Unserved, Unread}
 use Rattle.report_judge.specs.Judgements.{FitsNext, BeginsWithEntry, IsMissing}
 use Rattle.report_judge.specs.Places.{place_told, command_told}
 use Rattle.report_judge.specs.Replaying.{ShowsReplay}
@@ -45,14 +45,14 @@ pub record NoneFits (script : Script) (past : Past) (rest : List ℕ) : Type 0 w
   pub none : (e : Entry) → EntryIsNarrow e → BeginsWithEntry rest e → FitsNext script past e → ⊥
 
 -- why no more entries were read behind these, where this is left
-abbrev pub IsStop : Script → Past → List ℕ → Stop → Type 0
+abbrev pub IsStop : Script → Past → List ℕ → WalkEnd → Type 0
 IsStop script past rest Whole = (rest ≡ []) × Serves script (record { nodes = script.nodes; entries = reverse past })
 IsStop script past rest (Short line) = (rest ≡ []) × IsMissing script past line.0
 IsStop script past rest Unserved = (rest ≢ []) × NoneFits script past rest
 IsStop script past rest Unread = (rest ≢ []) × ((e : Entry) → EntryIsNarrow e → BeginsWithEntry rest e → ⊥)
 
 -- the report was read as far as its entries serve the script
-pub record IsWalk (script : Script) (report : List ℕ) (h : History) (ended : Stop) : Type 0 where
+pub record IsWalk (script : Script) (report : List ℕ) (h : History) (ended : WalkEnd) : Type 0 where
   pub nodes : h.nodes ≡ script.nodes
   pub rest : List ℕ
   pub serves : ServesTo script report (reverse h.entries) rest

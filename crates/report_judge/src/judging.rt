@@ -7,7 +7,7 @@ ghost use Rattle.script_serving.specs.Lines.{lines_of, earlier_phases_answered a
 ghost use Rattle.script_serving.specs.Serves.{ServesLanes, ServesPhases, is_merge_fault};
 ghost use Rattle.script_serving.specs.Refusals.{put_publishes};
 ghost use Rattle.report_judge.specs.Judgements.{FitsNext, newest_at, IsJudgement};
-ghost use Rattle.report_judge.specs.Replaying.{due_of};
+ghost use Rattle.report_judge.specs.Replaying.{left_to_replay};
 ghost use Rattle.report_judge.specs.Walks.{IsShown, IsEntryTold, IsWalk, IsStop};
 
 use crate::judgement::Judgement;
@@ -15,7 +15,6 @@ use crate::lines::{
     all_places, earlier_phases_answered, first_unanswered, lane_places, line_numbered,
 };
 use crate::reading::read_entry;
-use crate::refusals::cut_has_put;
 use crate::replay::Replay;
 use crate::serving::{fits_replay, fits_turn, is_fault, is_merge};
 use history_facts::{Generation, before_start};
@@ -24,6 +23,7 @@ use nrt_base::{At, LineNo, List, NoMemory};
 use point_history::legal;
 use report_reading::{entry_is_narrow, next_line};
 use script_serving::{LineCommand, Script};
+use serving_rules::cut_has_put;
 use std::alloc::Global;
 
 /// What the entries before a place show.
@@ -37,7 +37,7 @@ pub struct Shown {
 
 /// Why no more entries were read.
 #[derive(Clone, Copy, Debug, PartialEq, Eq)]
-pub enum Stop {
+pub enum WalkEnd {
     /// The report is at its end, and all is answered.
     Whole,
     /// The report is at its end, but this line of the script has no reply, or its replay is not done.
@@ -75,7 +75,7 @@ fn fits_next(
 ) -> Result<bool, NoMemory>
     requires form { IsInForm script.now }
     requires shown { IsShown script.now (reverse entries.now) shown.now }
-    requires told { IsEntryTold script.now (due_of shown.now.replay) entry.now }
+    requires told { IsEntryTold script.now (left_to_replay shown.now.replay) entry.now }
     ensures { IfOk result (λ fits. IsTrue fits ↔
         FitsNext script.now (reverse entries.now) entry.now) }
 {
@@ -185,7 +185,12 @@ fn newest_line(entries: &[Entry]) -> Option<At>
 }
 
 /// What a report has behind the entries that serve the script.
-fn end(alloc: Global, script: &Script, shown: &Shown, entries: &[Entry]) -> Result<Stop, NoMemory>
+fn end(
+    alloc: Global,
+    script: &Script,
+    shown: &Shown,
+    entries: &[Entry],
+) -> Result<WalkEnd, NoMemory>
     requires shown { IsShown script.now (reverse entries.now) shown.now }
     requires lanes { ServesLanes script.now (reverse entries.now) }
     requires phases { ServesPhases (lines_of script.now) script.now.phases (reverse entries.now) }
@@ -193,14 +198,14 @@ fn end(alloc: Global, script: &Script, shown: &Shown, entries: &[Entry]) -> Resu
 {
     let places = all_places(alloc, script)?;
     if let Some(at) = first_unanswered(places.as_slice(), entries) {
-        return Ok(Stop::Short(at.line));
+        return Ok(WalkEnd::Short(at.line));
     }
     if shown.replay.is_done() {
-        return Ok(Stop::Whole);
+        return Ok(WalkEnd::Whole);
     }
     match newest_line(entries) {
-        Some(at) => Ok(Stop::Short(at.line)),
-        None => Ok(Stop::Whole),
+        Some(at) => Ok(WalkEnd::Short(at.line)),
+        None => Ok(WalkEnd::Whole),
     }
 }
 
@@ -214,7 +219,7 @@ fn history_of(script: &Script, entries: Vec<Entry>) -> History
 }
 
 /// Reads a report as far as its entries serve the script.
-pub fn walk(alloc: Global, script: &Script, report: &[u8]) -> Result<(History, Stop), NoMemory>
+pub fn walk(alloc: Global, script: &Script, report: &[u8]) -> Result<(History, WalkEnd), NoMemory>
     requires form { IsInForm script.now }
     ensures { IfOk result (λ walk. IsWalk script.now report.now walk.0 walk.1) }
 {
@@ -223,10 +228,10 @@ pub fn walk(alloc: Global, script: &Script, report: &[u8]) -> Result<(History, S
     let mut left = report;
     while let Some((line, rest)) = next_line(left) {
         let Some(entry) = read_entry(alloc, script, shown.replay.due(), line)? else {
-            return Ok((history_of(script, entries), Stop::Unread));
+            return Ok((history_of(script, entries), WalkEnd::Unread));
         };
         if !fits_next(alloc, script, &shown, entries.as_slice(), &entry)? {
-            return Ok((history_of(script, entries), Stop::Unserved));
+            return Ok((history_of(script, entries), WalkEnd::Unserved));
         }
         shown = shown.take(alloc, script, entries.as_slice(), &entry)?;
         entries.push(entry)?;
@@ -251,9 +256,9 @@ pub fn judge(alloc: Global, script: &Script, report: &[u8]) -> Result<Judgement,
     }
     let next = history.entries.as_slice().len() + 1;
     Ok(match stop {
-        Stop::Whole => Judgement::Legal(history),
-        Stop::Short(line) => Judgement::Unanswered(line),
-        Stop::Unserved => Judgement::Unserved(next),
-        Stop::Unread => Judgement::Unread(next),
+        WalkEnd::Whole => Judgement::Legal(history),
+        WalkEnd::Short(line) => Judgement::Unanswered(line),
+        WalkEnd::Unserved => Judgement::Unserved(next),
+        WalkEnd::Unread => Judgement::Unread(next),
     })
 }

@@ -1,13 +1,11 @@
 //! The judge of reports: whether one is the text of a legal history that serves its script, and else the first line that is wrong.
 #![tactic(auto)]
 
-mod commands;
 mod explaining;
 mod judgement;
 mod judging;
 mod lines;
 mod reading;
-mod refusals;
 mod replay;
 mod serving;
 mod source;
@@ -16,5 +14,5 @@ mod verdicts;
 pub use explaining::explain;
 pub use judgement::Judgement;
 pub use judging::judge;
-pub use source::{Source, cut_source};
+pub use source::{ScriptAndReport, cut_source};
 pub use verdicts::verdict;

@@ -1,7 +1,7 @@
 //! What a log has, and what a replay has left of it.
 
 ghost use Rattle.std.specs.Prelude.{◌≡◌, ◌↔◌, [], ◌∷◌, reverse, drop, IsTrue, OnOk, IfOk};
-ghost use Rattle.report_judge.specs.Replaying.{ShowsReplay, due_of};
+ghost use Rattle.report_judge.specs.Replaying.{ShowsReplay, left_to_replay};
 
 use documents::Op;
 use history_facts::{is_answered, operation_count, version_of};
@@ -46,7 +46,7 @@ impl Replay {
 
     /// The operations that are due to be accepted again.
     pub fn due(&self) -> &[Op]
-        ensures { result.now ≡ due_of self.now }
+        ensures { result.now ≡ left_to_replay self.now }
     {
         if self.accepted < self.lacking.len() {
             &self.lacking[self.accepted..]
@@ -58,7 +58,7 @@ impl Replay {
     fn promote(&mut self, alloc: Global, has: usize) -> Result<(), NoMemory>
         ensures log { self.new.log ≡ self.old.log }
         ensures logged { self.new.logged ≡ self.old.logged }
-        ensures due { OnOk result (due_of self.new ≡ drop has self.old.logged.items) }
+        ensures due { OnOk result (left_to_replay self.new ≡ drop has self.old.logged.items) }
     {
         let first = has.min(self.logged.len());
         self.lacking = share_all(alloc, &self.logged[first..])?;
@@ -71,7 +71,7 @@ impl Replay {
     fn count_again(&mut self)
         ensures log { self.new.log ≡ self.old.log }
         ensures logged { self.new.logged ≡ self.old.logged }
-        ensures due { due_of self.new ≡ drop 1 (due_of self.old) }
+        ensures due { left_to_replay self.new ≡ drop 1 (left_to_replay self.old) }
     {
         if self.accepted < self.lacking.len() {
             self.accepted += 1;
@@ -80,7 +80,7 @@ impl Replay {
 
     /// Whether nothing is due.
     pub fn is_done(&self) -> bool
-        ensures { IsTrue result ↔ (due_of self.now ≡ []) }
+        ensures { IsTrue result ↔ (left_to_replay self.now ≡ []) }
     {
         self.due().is_empty()
     }

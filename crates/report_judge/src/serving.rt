@@ -11,13 +11,12 @@ ghost use Rattle.report_reading.specs.Readings.{as_told};
 ghost use Rattle.report_judge.specs.Places.{place_of};
 ghost use Rattle.report_judge.specs.Serving.{is_fault as is_fault_lem, is_merge as is_merge_lem, is_acceptance as is_acceptance_lem};
 
-use crate::commands::{begins, follows};
 use crate::lines::earlier_answered;
-use crate::refusals::{may_be_refused, refusal};
 use history_facts::{Generation, is_answered, last_of_line, same_at};
 use history_rules::{Cause, Entry, Event};
 use nrt_base::{At, NoMemory};
 use script_serving::LineCommand;
+use serving_rules::{begins, follows, may_be_refused, refusal};
 use std::alloc::Global;
 
 /// Whether the two are one cause for which a line is refused before it has started.

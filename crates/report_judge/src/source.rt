@@ -8,7 +8,7 @@ use report_reading::{first_line, next_line};
 
 /// A script, and a report on it.
 #[derive(Clone, Copy)]
-pub struct Source<'a> {
+pub struct ScriptAndReport<'a> {
     pub script: &'a [u8],
     pub report: &'a [u8],
 }
@@ -37,7 +37,7 @@ fn from_mark(bytes: &[u8]) -> &[u8]
 }
 
 /// The parts of a source before and behind its first line that is the word `report` alone; where there is none, all is script.
-pub fn cut_source(bytes: &[u8]) -> Source<'_>
+pub fn cut_source(bytes: &[u8]) -> ScriptAndReport<'_>
     ensures script { result.script.now ≡ script_part bytes.now }
     ensures report { result.report.now ≡ report_part bytes.now }
     ensures short { length result.script.now ≤ length bytes.now }
@@ -45,5 +45,5 @@ pub fn cut_source(bytes: &[u8]) -> Source<'_>
     let rest = from_mark(bytes);
     let (_, report) = first_line(rest);
     let script = &bytes[..bytes.len() - rest.len()];
-    Source { script, report }
+    ScriptAndReport { script, report }
 }

@@ -2,7 +2,7 @@
 use Rattle.std.proofs.Common.{◌≡◌, ℕ, ◌^◌, ◌<◌, Bool, true, false, not, nat_lt, List, [], length, get_or, Some, None, Result, Ok, Err, ◌↔◌, refl, sym, ap, ◌∙◌, inl, inr, arith}
 use Rattle.std.specs.Prelude.{◌&&◌, if◌then◌else◌, IsErrOf}
 use Rattle.std.specs.List.{list_all}
-use Rattle.std.proofs.lemmas.Bool.{and_parts, and_from, cases_Bool, lt-ltb, ltb-true, false≢true}
+use Rattle.std.proofs.lemmas.Bool.{and_left, and_right, and_parts, and_from, cases_Bool, lt-ltb, ltb-true, false≢true}
 use Rattle.std.proofs.lemmas.Bool.Decides.{nat_tests}
 use Rattle.std.proofs.lemmas.List.Folds.{list_all_at}
 use Rattle.std.proofs.lemmas.List.Quantifiers.{position-Some}
@@ -15,17 +15,13 @@ use Rattle.file_names.specs.declared.names.NameFault.TheVariants.{Empty, Long, B
 use Rattle.file_names.specs.declared.radix.Base36Fault.{Base36Fault}
 use Rattle.report_reading.specs.Readings.{is_base36_number}
 
-not_passed : (b : Bool) → not b ≡ true → b ≡ false
-not_passed true e = absurd (false≢true e)
-not_passed false e = refl
-
-no_first : (a b : Bool) → a ≡ false → (a && b) ≡ false
-no_first true b e = absurd (false≢true (sym e))
-no_first false b e = refl
-
-no_second : (a b : Bool) → b ≡ false → (a && b) ≡ false
-no_second true b e = e
-no_second false b e = refl
+-- what is not passed fails the test
+refused : {X : Type 0} (p : X → Bool) (x : X) → not (p x) ≡ true → p x ≡ false
+refused p x e = by_test (p x) e
+  where
+    by_test : (b : Bool) → not b ≡ true → b ≡ false
+    by_test true h = absurd (false≢true h)
+    by_test false h = refl
 
 too_long : (bytes : List ℕ) → 64 < length bytes → is_between 1 64 (length bytes) ≡ false
 too_long bytes h = grind (arith, nat_tests)
@@ -35,10 +31,10 @@ pub no_name : (bytes : List ℕ) (fault : NameFault)
     → (IsErrOf {T = List ℕ} (Err fault) Empty → bytes ≡ []) → ((n : ℕ) → IsErrOf {T = List ℕ} (Err fault) (Long n) → IsTooLong n bytes)
     → ((at : ℕ) → IsErrOf {T = List ℕ} (Err fault) (Byte at) → IsRefusedByte at bytes) → is_file_name bytes ≡ false
 no_name bytes Empty empty long byte = let none : bytes ≡ [] = empty refl in rw none refl
-no_name bytes (Long n) empty long byte = no_first (is_between 1 64 (length bytes)) (list_all is_name_byte bytes) (too_long bytes (long n refl).0)
+no_name bytes (Long n) empty long byte = and_left (is_between 1 64 (length bytes)) (list_all is_name_byte bytes) (too_long bytes (long n refl).0)
 no_name bytes (Byte at) empty long byte =
     let found = position-Some (λ (b : ℕ). not (is_name_byte b)) bytes at 0 (byte at refl).1 in
-    no_second (is_between 1 64 (length bytes)) (list_all is_name_byte bytes) (list_all_at is_name_byte bytes at 0 found.0 (not_passed (is_name_byte (get_or bytes at 0)) found.1))
+    and_right (is_between 1 64 (length bytes)) (list_all is_name_byte bytes) (list_all_at is_name_byte bytes at 0 found.0 (refused is_name_byte (get_or bytes at 0) found.1))
 
 -- ---- base 36
 
@@ -68,7 +64,7 @@ module _ (digits : List ℕ) (r : Result ℕ Base36Fault) (number : (n : ℕ) �
           let spelled : SpellsBase36 digits (base36_value digits) = record {
             some = ltb-true 0 (length digits) a.0;
             digits = b.0;
-            leading = not_passed (has_leading_zero digits) c.0;
+            leading = refused has_leading_zero digits c.0;
             value = refl;
           } in
           ok_never_err (base36_value digits) fault (sym ((number (base36_value digits)).1 (spelled, ltb-true (base36_value digits) (2 ^ 64) c.1)) ∙ e)

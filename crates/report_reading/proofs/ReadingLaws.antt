@@ -31,14 +31,14 @@ use Rattle.script_text.proofs.NumberLaws.{value_of-decimal, digits_of-decimal, n
 use Rattle.script_text.specs.Refused.{is_digit}
 use Rattle.script_serving.specs.declared.script.LineCommand.{LineCommand}
 use Rattle.report_reading.specs.Widths.{IsNodeWide, IsTicketWide, IsCountWide, CauseIsNarrow, PlanIsNarrow, hit_is_narrow, EventIsNarrow}
-use Rattle.report_reading.specs.Readings.{IsEventRead, as_told, number_of, node_of, ticket_of, count_of, node_word, ticket_word, count_word, version_from, one_number, two_numbers, three_numbers, node_first, node_version, node_ticket_version, node_count, node_counts, name_of, names_of, is_base36_number, segment_named, rank_length, hit_with, hit_of, hits_of, cause_of, kind_named, planned_of, answer_of, event_with, event_of}
+use Rattle.report_reading.specs.Readings.{IsEventRead, as_told, number_read, node_fitting, ticket_fitting, count_fitting, node_word, ticket_word, count_word, version_from, one_number, two_numbers, three_numbers, node_first, node_version, node_ticket_version, node_count, node_counts, name_read, names_read, is_base36_number, segment_named, rank_length, hit_keyed, hit_read, hits_read, cause_read, kind_named, planned_read, answer_read, event_with, event_read}
 
 -- ---- numbers
 
 in_range : (n : ℕ) → n < 2 ^ 64 → is_between 0 (2 ^ 64 - 1) n ≡ true
 in_range n h = grind (arith, nat_tests)
 
-number_is : (n : ℕ) → n < 2 ^ 64 → number_of (decimal n) ≡ Some n
+number_is : (n : ℕ) → n < 2 ^ 64 → number_read (decimal n) ≡ Some n
 number_is n h = rw (number_in 0 (2 ^ 64 - 1) n h (in_range n h)) (ap Some (value_of-decimal n h))
 
 wide_node : (n : ℕ) → IsNodeWide n → n < 2 ^ 64
@@ -56,13 +56,13 @@ node n = record { 0 = n }
 abbrev ticket : ℕ → TicketNo
 ticket n = record { 0 = n }
 
-node_is : (n : ℕ) → IsNodeWide n → node_of n ≡ Some (node n)
+node_is : (n : ℕ) → IsNodeWide n → node_fitting n ≡ Some (node n)
 node_is n h = rw (lt-ltb n 256 h) refl
 
-ticket_is : (n : ℕ) → IsTicketWide n → ticket_of n ≡ Some (ticket n)
+ticket_is : (n : ℕ) → IsTicketWide n → ticket_fitting n ≡ Some (ticket n)
 ticket_is n h = rw (lt-ltb n 65536 h) refl
 
-count_is : (n : ℕ) → IsCountWide n → count_of n ≡ Some n
+count_is : (n : ℕ) → IsCountWide n → count_fitting n ≡ Some n
 count_is n h = rw (lt-ltb n 4294967296 h) refl
 
 -- what is found goes on
@@ -73,36 +73,36 @@ map_is : {X Y : Type 0} (f : X → Y) (o : Option X) (x : X) → o ≡ Some x �
 map_is f o x e = rw e refl
 
 node_word_is : (n : ℕ) → IsNodeWide n → node_word (decimal n) ≡ Some (node n)
-node_word_is n h = then_is node_of (number_of (decimal n)) n (Some (node n)) (number_is n (wide_node n h)) (node_is n h)
+node_word_is n h = then_is node_fitting (number_read (decimal n)) n (Some (node n)) (number_is n (wide_node n h)) (node_is n h)
 
 ticket_word_is : (n : ℕ) → IsTicketWide n → ticket_word (decimal n) ≡ Some (ticket n)
-ticket_word_is n h = then_is ticket_of (number_of (decimal n)) n (Some (ticket n)) (number_is n (wide_ticket n h)) (ticket_is n h)
+ticket_word_is n h = then_is ticket_fitting (number_read (decimal n)) n (Some (ticket n)) (number_is n (wide_ticket n h)) (ticket_is n h)
 
 pub count_word_is : (n : ℕ) → IsCountWide n → count_word (decimal n) ≡ Some n
-count_word_is n h = then_is count_of (number_of (decimal n)) n (Some n) (number_is n (wide_count n h)) (count_is n h)
+count_word_is n h = then_is count_fitting (number_read (decimal n)) n (Some n) (number_is n (wide_count n h)) (count_is n h)
 
 two_are : (a b : ℕ) → a < 2 ^ 64 → b < 2 ^ 64 → two_numbers (decimal a ∷ decimal b ∷ []) ≡ Some (a, b)
 two_are a b h k =
-    then_is (λ (x : ℕ). option_map (λ (y : ℕ). (x, y)) (number_of (decimal b))) (number_of (decimal a)) a (Some (a, b)) (number_is a h)
-    (map_is (λ (y : ℕ). (a, y)) (number_of (decimal b)) b (number_is b k))
+    then_is (λ (x : ℕ). option_map (λ (y : ℕ). (x, y)) (number_read (decimal b))) (number_read (decimal a)) a (Some (a, b)) (number_is a h)
+    (map_is (λ (y : ℕ). (a, y)) (number_read (decimal b)) b (number_is b k))
 
 three_are : (a b c : ℕ) → a < 2 ^ 64 → b < 2 ^ 64 → c < 2 ^ 64 → three_numbers (decimal a ∷ decimal b ∷ decimal c ∷ []) ≡ Some (a, b, c)
 three_are a b c h k l =
-    then_is (λ (x : ℕ). option_map (λ (p : ℕ × ℕ). (x, p.0, p.1)) (two_numbers (decimal b ∷ decimal c ∷ []))) (number_of (decimal a)) a (Some (a, b, c)) (number_is a h)
+    then_is (λ (x : ℕ). option_map (λ (p : ℕ × ℕ). (x, p.0, p.1)) (two_numbers (decimal b ∷ decimal c ∷ []))) (number_read (decimal a)) a (Some (a, b, c)) (number_is a h)
     (map_is (λ (p : ℕ × ℕ). (a, p.0, p.1)) (two_numbers (decimal b ∷ decimal c ∷ [])) (b, c) (two_are b c k l))
 
 node_first_is : (n b : ℕ) → IsNodeWide n → b < 2 ^ 64 → node_first (decimal n ∷ decimal b ∷ []) ≡ Some (node n, b)
 node_first_is n b h k =
-    then_is (λ (p : ℕ × ℕ). option_map (λ (m : NodeNo). (m, p.1)) (node_of p.0)) (two_numbers (decimal n ∷ decimal b ∷ [])) (n, b) (Some (node n, b)) (two_are n b (wide_node n h) k)
-    (map_is (λ (m : NodeNo). (m, b)) (node_of n) (node n) (node_is n h))
+    then_is (λ (p : ℕ × ℕ). option_map (λ (m : NodeNo). (m, p.1)) (node_fitting p.0)) (two_numbers (decimal n ∷ decimal b ∷ [])) (n, b) (Some (node n, b)) (two_are n b (wide_node n h) k)
+    (map_is (λ (m : NodeNo). (m, b)) (node_fitting n) (node n) (node_is n h))
 
 node_version_is : (n b : ℕ) → IsNodeWide n → b < 2 ^ 64 → node_version (decimal n ∷ decimal b ∷ []) ≡ Some (node n, version_from b)
 node_version_is n b h k = map_is (λ (p : NodeNo × ℕ). (p.0, version_from p.1)) (node_first (decimal n ∷ decimal b ∷ [])) (node n, b) (node_first_is n b h k)
 
 node_count_is : (n b : ℕ) → IsNodeWide n → IsCountWide b → node_count (decimal n ∷ decimal b ∷ []) ≡ Some (node n, b)
 node_count_is n b h k =
-    then_is (λ (p : NodeNo × ℕ). option_map (λ (c : ℕ). (p.0, c)) (count_of p.1)) (node_first (decimal n ∷ decimal b ∷ [])) (node n, b) (Some (node n, b)) (node_first_is n b h (wide_count b k))
-    (map_is (λ (c : ℕ). (node n, c)) (count_of b) b (count_is b k))
+    then_is (λ (p : NodeNo × ℕ). option_map (λ (c : ℕ). (p.0, c)) (count_fitting p.1)) (node_first (decimal n ∷ decimal b ∷ [])) (node n, b) (Some (node n, b)) (node_first_is n b h (wide_count b k))
+    (map_is (λ (c : ℕ). (node n, c)) (count_fitting b) b (count_is b k))
 
 node_counts_is : (n a b : ℕ) → IsNodeWide n → IsCountWide a → IsCountWide b → node_counts (decimal n ∷ decimal a ∷ decimal b ∷ []) ≡ Some (node n, a, b)
 node_counts_is n a b h k l =
@@ -114,13 +114,13 @@ three_words_is n t v h k l =
 
 -- ---- names, segments and hits
 
-names_are : (names : List (List ℕ)) → list_all is_file_name names ≡ true → names_of names ≡ Some names
+names_are : (names : List (List ℕ)) → list_all is_file_name names ≡ true → names_read names ≡ Some names
 names_are [] h = refl
 names_are (name ∷ names) h =
     let parts = and_parts (is_file_name name) (list_all is_file_name names) h in
-    let is : name_of name ≡ Some name = rw parts.0 refl in
-    then_is (λ (x : List ℕ). option_map (λ (xs : List (List ℕ)). x ∷ xs) (names_of names)) (name_of name) name (Some (name ∷ names)) is
-    (map_is (λ (xs : List (List ℕ)). name ∷ xs) (names_of names) names (names_are names parts.1))
+    let is : name_read name ≡ Some name = rw parts.0 refl in
+    then_is (λ (x : List ℕ). option_map (λ (xs : List (List ℕ)). x ∷ xs) (names_read names)) (name_read name) name (Some (name ∷ names)) is
+    (map_is (λ (xs : List (List ℕ)). name ∷ xs) (names_read names) names (names_are names parts.1))
 
 segment_is : (n : ℕ) → n < 2 ^ 64 → segment_named (95 ∷ base36_of n) ≡ Some (record { 0 = n })
 segment_is n h =
@@ -158,26 +158,26 @@ rank_front digits key h =
     let same : rank_length (digits ++ 58 ∷ key) ≡ length digits = length-prefix_len (λ (b : ℕ). not (b == 58)) (digits ++ 58 ∷ key) ∙ colon_at digits key h in
     subst (λ (n : ℕ). (take n (digits ++ 58 ∷ key) ≡ digits) × (drop n (digits ++ 58 ∷ key) ≡ 58 ∷ key)) (sym same) (front_of digits key)
 
-hit_is : (hit : Hit) → hit_is_narrow hit ≡ true → hit_of (hit_text hit) ≡ Some hit
+hit_is : (hit : Hit) → hit_is_narrow hit ≡ true → hit_read (hit_text hit) ≡ Some hit
 hit_is hit h =
     let parts = and_parts (nat_lt hit.rank (2 ^ 32)) (is_key hit.key) h in
     let low : hit.rank < 2 ^ 32 = ltb-true hit.rank (2 ^ 32) parts.0 in
     let cut = rank_front (decimal hit.rank) hit.key (digits_of-decimal hit.rank (wide_count hit.rank low)) in
     let word = hit_text hit in
     let rank : count_word (take (rank_length word) word) ≡ Some hit.rank = ap count_word cut.0 ∙ count_word_is hit.rank low in
-    let key : hit_with hit.rank (drop 1 (drop (rank_length word) word)) ≡ Some hit = ap (λ (t : List ℕ). hit_with hit.rank (drop 1 t)) cut.1 ∙ rw parts.1 refl in
-    then_is (λ (rank : ℕ). hit_with rank (drop 1 (drop (rank_length word) word))) (count_word (take (rank_length word) word)) hit.rank (Some hit) rank key
+    let key : hit_keyed hit.rank (drop 1 (drop (rank_length word) word)) ≡ Some hit = ap (λ (t : List ℕ). hit_keyed hit.rank (drop 1 t)) cut.1 ∙ rw parts.1 refl in
+    then_is (λ (rank : ℕ). hit_keyed rank (drop 1 (drop (rank_length word) word))) (count_word (take (rank_length word) word)) hit.rank (Some hit) rank key
 
-hits_are : (hits : List Hit) → list_all hit_is_narrow hits ≡ true → hits_of (map hit_text hits) ≡ Some hits
+hits_are : (hits : List Hit) → list_all hit_is_narrow hits ≡ true → hits_read (map hit_text hits) ≡ Some hits
 hits_are [] h = refl
 hits_are (hit ∷ hits) h =
     let parts = and_parts (hit_is_narrow hit) (list_all hit_is_narrow hits) h in
-    then_is (λ (x : Hit). option_map (λ (xs : List Hit). x ∷ xs) (hits_of (map hit_text hits))) (hit_of (hit_text hit)) hit (Some (hit ∷ hits)) (hit_is hit parts.0)
-    (map_is (λ (xs : List Hit). hit ∷ xs) (hits_of (map hit_text hits)) hits (hits_are hits parts.1))
+    then_is (λ (x : Hit). option_map (λ (xs : List Hit). x ∷ xs) (hits_read (map hit_text hits))) (hit_read (hit_text hit)) hit (Some (hit ∷ hits)) (hit_is hit parts.0)
+    (map_is (λ (xs : List Hit). hit ∷ xs) (hits_read (map hit_text hits)) hits (hits_are hits parts.1))
 
 -- ---- causes and faults
 
-cause_is : (cause : Cause) → CauseIsNarrow cause → cause_of (cause_words cause) ≡ Some cause
+cause_is : (cause : Cause) → CauseIsNarrow cause → cause_read (cause_words cause) ≡ Some cause
 cause_is (ForceLow v) h = map_is (λ (k : ℕ). ForceLow (version_from k)) (one_number (decimal v.0 ∷ [])) v.0 (number_is v.0 h)
 cause_is (Cancelled v) h = map_is (λ (k : ℕ). Cancelled (version_from k)) (one_number (decimal v.0 ∷ [])) v.0 (number_is v.0 h)
 cause_is (Damaged name) h = rw h refl
@@ -202,7 +202,7 @@ kind_is kind.Damage = refl
 kind_is kind.Disk = refl
 kind_is kind.Stop = refl
 
-planned_is : (n : NodeNo) (p : FaultPlan) → IsNodeWide n.0 → PlanIsNarrow p → planned_of (plan_words n.0 p) ≡ Some (Planned n p)
+planned_is : (n : NodeNo) (p : FaultPlan) → IsNodeWide n.0 → PlanIsNarrow p → planned_read (plan_words n.0 p) ≡ Some (Planned n p)
 planned_is n (plan.Link k) h i = map_is (λ (q : NodeNo × ℕ). Planned q.0 (plan.Link q.1)) (node_count (decimal n.0 ∷ decimal k ∷ [])) (n, k) (node_count_is n.0 k h i)
 planned_is n (plan.Damage k at) h i =
     map_is (λ (q : NodeNo × ℕ × ℕ). Planned q.0 (plan.Damage q.1 q.2)) (node_counts (decimal n.0 ∷ decimal k ∷ decimal at ∷ [])) (n, k, at) (node_counts_is n.0 k at h i.0 i.1)
@@ -211,18 +211,18 @@ planned_is n (plan.Stop k) h i = map_is (λ (q : NodeNo × ℕ). Planned q.0 (pl
 
 -- ---- events
 
-answer_is : (answer : Answer) → IsCountWide answer.total → list_all hit_is_narrow answer.hits ≡ true → answer_of (decimal answer.total ∷ map hit_text answer.hits) ≡ Some answer
+answer_is : (answer : Answer) → IsCountWide answer.total → list_all hit_is_narrow answer.hits ≡ true → answer_read (decimal answer.total ∷ map hit_text answer.hits) ≡ Some answer
 answer_is answer h k =
-    then_is (λ (total : ℕ). option_map (λ (hits : List Hit). with_hits total hits) (hits_of (map hit_text answer.hits))) (count_word (decimal answer.total)) answer.total (Some answer)
+    then_is (λ (total : ℕ). option_map (λ (hits : List Hit). with_hits total hits) (hits_read (map hit_text answer.hits))) (count_word (decimal answer.total)) answer.total (Some answer)
     (count_word_is answer.total h)
-    (map_is (λ (hits : List Hit). with_hits answer.total hits) (hits_of (map hit_text answer.hits)) answer.hits (hits_are answer.hits k))
+    (map_is (λ (hits : List Hit). with_hits answer.total hits) (hits_read (map hit_text answer.hits)) answer.hits (hits_are answer.hits k))
   where
     with_hits : ℕ → List Hit → Answer
     with_hits total hits = record { total = total; hits = hits }
 
 module _ (due : List Op) (command : LineCommand) where
   -- the words of each event are read as it
-  event_is : (e : Event) → EventIsNarrow e → event_of due command (event_words e) ≡ Some (as_told due command e)
+  event_is : (e : Event) → EventIsNarrow e → event_read due command (event_words e) ≡ Some (as_told due command e)
   event_is (Accepted seq op) h = rw (number_is seq (wide_count seq h)) (rw (count_is seq h) refl)
   event_is Publishing h = refl
   event_is (Published g v) h = rw (two_are g.0 v.0 h.0 h.1) refl
@@ -246,10 +246,10 @@ module _ (due : List Op) (command : LineCommand) where
   event_is (Files n names) h = rw (node_word_is n.0 h.0) (rw (names_are names h.1) refl)
   event_is (Planned n p) h = planned_is n p h.0 h.1
   event_is (Fault n k) h = rw (node_word_is n.0 h) (rw (kind_is k) refl)
-  event_is (Refused cause) h = map_is (λ (c : Cause). Refused c) (cause_of (cause_words cause)) cause (cause_is cause h)
+  event_is (Refused cause) h = map_is (λ (c : Cause). Refused c) (cause_read (cause_words cause)) cause (cause_is cause h)
 
-  pub each_event : (words : List (List ℕ)) (e : Event) → EventIsNarrow e → event_words e ≡ words → event_of due command words ≡ Some (as_told due command e)
-  each_event words e h same = subst (λ (ws : List (List ℕ)). event_of due command ws ≡ Some (as_told due command e)) same (event_is e h)
+  pub each_event : (words : List (List ℕ)) (e : Event) → EventIsNarrow e → event_words e ≡ words → event_read due command words ≡ Some (as_told due command e)
+  each_event words e h same = subst (λ (ws : List (List ℕ)). event_read due command ws ≡ Some (as_told due command e)) same (event_is e h)
 
   -- what a name and the words behind it are read as is what all are read as
   pub read_is : {E : Type 0} (words : List (List ℕ)) (word : List ℕ) (rest : List (List ℕ)) (r : Result (Option Event) E) → words ≡ word ∷ rest

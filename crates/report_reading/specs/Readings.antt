@@ -66,32 +66,32 @@ IsEventRead due command words read = (e : Event) → EventIsNarrow e → event_w
 -- ---- numbers and names
 
 -- the number that a word is, of at most 64 bits
-abbrev pub number_of : List ℕ → Option ℕ
-number_of word = number_within 0 (2 ^ 64 - 1) word
+abbrev pub number_read : List ℕ → Option ℕ
+number_read word = number_within 0 (2 ^ 64 - 1) word
 
 -- a node of 8 bits
-abbrev pub node_of : ℕ → Option NodeNo
-node_of n = if nat_lt n 256 then Some (record { 0 = n }) else None
+abbrev pub node_fitting : ℕ → Option NodeNo
+node_fitting n = if nat_lt n 256 then Some (record { 0 = n }) else None
 
 -- a ticket of 16 bits
-abbrev pub ticket_of : ℕ → Option TicketNo
-ticket_of n = if nat_lt n 65536 then Some (record { 0 = n }) else None
+abbrev pub ticket_fitting : ℕ → Option TicketNo
+ticket_fitting n = if nat_lt n 65536 then Some (record { 0 = n }) else None
 
 -- a count of 32 bits
-abbrev pub count_of : ℕ → Option ℕ
-count_of n = if nat_lt n 4294967296 then Some n else None
+abbrev pub count_fitting : ℕ → Option ℕ
+count_fitting n = if nat_lt n 4294967296 then Some n else None
 
 -- the node that a word is
 abbrev pub node_word : List ℕ → Option NodeNo
-node_word word = option_and_then (λ n. node_of n) (number_of word)
+node_word word = option_and_then (λ n. node_fitting n) (number_read word)
 
 -- the ticket that a word is
 abbrev pub ticket_word : List ℕ → Option TicketNo
-ticket_word word = option_and_then (λ n. ticket_of n) (number_of word)
+ticket_word word = option_and_then (λ n. ticket_fitting n) (number_read word)
 
 -- the count that a word is
 abbrev pub count_word : List ℕ → Option ℕ
-count_word word = option_and_then (λ n. count_of n) (number_of word)
+count_word word = option_and_then (λ n. count_fitting n) (number_read word)
 
 -- this version
 abbrev pub version_from : ℕ → Version
@@ -100,16 +100,16 @@ version_from n = record { 0 = n }
 -- the one number that these words are
 abbrev pub one_number : List (List ℕ) → Option ℕ
 one_number [] = None
-one_number (word ∷ words) = if are_none words then number_of word else None
+one_number (word ∷ words) = if are_none words then number_read word else None
 
 -- the two numbers that these words are
 abbrev pub two_numbers : List (List ℕ) → Option (ℕ × ℕ)
 two_numbers [] = None
-two_numbers (word ∷ words) = option_and_then (λ a. option_map (λ b. (a, b)) (one_number words)) (number_of word)
+two_numbers (word ∷ words) = option_and_then (λ a. option_map (λ b. (a, b)) (one_number words)) (number_read word)
 
 -- a node, and the number behind it
 abbrev pub node_first : List (List ℕ) → Option (NodeNo × ℕ)
-node_first words = option_and_then (λ p. option_map (λ n. (n, p.1)) (node_of p.0)) (two_numbers words)
+node_first words = option_and_then (λ p. option_map (λ n. (n, p.1)) (node_fitting p.0)) (two_numbers words)
 
 -- a node and a version
 abbrev pub node_version : List (List ℕ) → Option (NodeNo × Version)
@@ -118,21 +118,21 @@ node_version words = option_map (λ p. (p.0, version_from p.1)) (node_first word
 -- the three numbers that these words are
 abbrev pub three_numbers : List (List ℕ) → Option (ℕ × ℕ × ℕ)
 three_numbers [] = None
-three_numbers (word ∷ words) = option_and_then (λ a. option_map (λ p. (a, p.0, p.1)) (two_numbers words)) (number_of word)
+three_numbers (word ∷ words) = option_and_then (λ a. option_map (λ p. (a, p.0, p.1)) (two_numbers words)) (number_read word)
 
 -- a node, a ticket and a version
 abbrev pub node_ticket_version : List (List ℕ) → Option (NodeNo × TicketNo × Version)
 node_ticket_version words =
-    option_and_then (λ p. option_and_then (λ n. option_map (λ t. (n, t, version_from p.2)) (ticket_of p.1)) (node_of p.0)) (three_numbers words)
+    option_and_then (λ p. option_and_then (λ n. option_map (λ t. (n, t, version_from p.2)) (ticket_fitting p.1)) (node_fitting p.0)) (three_numbers words)
 
 -- the name of a file that a word is
-abbrev pub name_of : List ℕ → Option (List ℕ)
-name_of word = if is_file_name word then Some word else None
+abbrev pub name_read : List ℕ → Option (List ℕ)
+name_read word = if is_file_name word then Some word else None
 
 -- the names of files that these words are
-abbrev pub names_of : List (List ℕ) → Option (List (List ℕ))
-names_of [] = Some []
-names_of (word ∷ words) = option_and_then (λ x. option_map (λ xs. x ∷ xs) (names_of words)) (name_of word)
+abbrev pub names_read : List (List ℕ) → Option (List (List ℕ))
+names_read [] = Some []
+names_read (word ∷ words) = option_and_then (λ x. option_map (λ xs. x ∷ xs) (names_read words)) (name_read word)
 
 -- digits of base 36 that are a number of 64 bits
 abbrev pub is_base36_number : List ℕ → Bool
@@ -149,17 +149,17 @@ abbrev pub rank_length : List ℕ → ℕ
 rank_length word = length (take_while (λ b. not (b == 58)) word)
 
 -- a hit of this rank with this key
-abbrev pub hit_with : ℕ → List ℕ → Option Hit
-hit_with rank key = if is_key key then Some (record { key = key; rank = rank }) else None
+abbrev pub hit_keyed : ℕ → List ℕ → Option Hit
+hit_keyed rank key = if is_key key then Some (record { key = key; rank = rank }) else None
 
 -- the hit that a word is: a rank, a colon and a key
-abbrev pub hit_of : List ℕ → Option Hit
-hit_of word = option_and_then (λ rank. hit_with rank (drop 1 (drop (rank_length word) word))) (count_word (take (rank_length word) word))
+abbrev pub hit_read : List ℕ → Option Hit
+hit_read word = option_and_then (λ rank. hit_keyed rank (drop 1 (drop (rank_length word) word))) (count_word (take (rank_length word) word))
 
 -- the hits that these words are
-abbrev pub hits_of : List (List ℕ) → Option (List Hit)
-hits_of [] = Some []
-hits_of (word ∷ words) = option_and_then (λ x. option_map (λ xs. x ∷ xs) (hits_of words)) (hit_of word)
+abbrev pub hits_read : List (List ℕ) → Option (List Hit)
+hits_read [] = Some []
+hits_read (word ∷ words) = option_and_then (λ x. option_map (λ xs. x ∷ xs) (hits_read words)) (hit_read word)
 
 -- ---- causes and faults
 
@@ -193,7 +193,7 @@ cause_named word =
 -- the one name that these words are
 abbrev pub one_name : List (List ℕ) → Option (List ℕ)
 one_name [] = None
-one_name (word ∷ words) = if are_none words then name_of word else None
+one_name (word ∷ words) = if are_none words then name_read word else None
 
 -- the cause that a word names with these words behind it
 abbrev pub cause_with : List ℕ → List (List ℕ) → Option Cause
@@ -204,9 +204,9 @@ cause_with word words =
     else None
 
 -- the cause that these words are
-abbrev pub cause_of : List (List ℕ) → Option Cause
-cause_of [] = None
-cause_of (word ∷ words) = if are_none words then cause_named word else cause_with word words
+abbrev pub cause_read : List (List ℕ) → Option Cause
+cause_read [] = None
+cause_read (word ∷ words) = if are_none words then cause_named word else cause_with word words
 
 -- the kind of fault that a word names
 abbrev pub kind_named : List ℕ → Option FaultKind
@@ -224,12 +224,12 @@ one_kind (word ∷ words) = if are_none words then kind_named word else None
 
 -- a node, and a count
 abbrev pub node_count : List (List ℕ) → Option (NodeNo × ℕ)
-node_count words = option_and_then (λ p. option_map (λ k. (p.0, k)) (count_of p.1)) (node_first words)
+node_count words = option_and_then (λ p. option_map (λ k. (p.0, k)) (count_fitting p.1)) (node_first words)
 
 -- a node, and two counts
 abbrev pub node_counts : List (List ℕ) → Option (NodeNo × ℕ × ℕ)
 node_counts words =
-    option_and_then (λ p. option_and_then (λ n. option_and_then (λ k. option_map (λ at. (n, k, at)) (count_of p.2)) (count_of p.1)) (node_of p.0)) (three_numbers words)
+    option_and_then (λ p. option_and_then (λ n. option_and_then (λ k. option_map (λ at. (n, k, at)) (count_fitting p.2)) (count_fitting p.1)) (node_fitting p.0)) (three_numbers words)
 
 -- ---- events
 
@@ -242,52 +242,52 @@ planned_with word words =
     else None
 
 -- the plan of a fault that these words are
-abbrev pub planned_of : List (List ℕ) → Option Event
-planned_of [] = None
-planned_of (word ∷ words) = planned_with word words
+abbrev pub planned_read : List (List ℕ) → Option Event
+planned_read [] = None
+planned_read (word ∷ words) = planned_with word words
 
 -- the fault that these words are
-abbrev pub fault_of : List (List ℕ) → Option Event
-fault_of [] = None
-fault_of (word ∷ words) = option_and_then (λ n. option_map (λ k. Fault n k) (one_kind words)) (node_word word)
+abbrev pub fault_read : List (List ℕ) → Option Event
+fault_read [] = None
+fault_read (word ∷ words) = option_and_then (λ n. option_map (λ k. Fault n k) (one_kind words)) (node_word word)
 
 -- the start of a merge that these words are
-abbrev pub merging_of : List (List ℕ) → Option Event
-merging_of [] = None
-merging_of (word ∷ words) = if are_none words then option_map (λ seg. Merging seg) (segment_named word) else None
+abbrev pub merging_read : List (List ℕ) → Option Event
+merging_read [] = None
+merging_read (word ∷ words) = if are_none words then option_map (λ seg. Merging seg) (segment_named word) else None
 
 -- the promotion that these words are
-abbrev pub promoted_of : List (List ℕ) → Option Event
-promoted_of [] = None
-promoted_of (word ∷ words) =
+abbrev pub promoted_read : List (List ℕ) → Option Event
+promoted_read [] = None
+promoted_read (word ∷ words) =
     option_and_then (λ n. option_map (λ p. Promoted n (record { 0 = p.0 }) (version_from p.1) (version_from p.2)) (three_numbers words)) (node_word word)
 
 -- the start of a publish that these words are: none
-abbrev pub publishing_of : List (List ℕ) → Option Event
-publishing_of words = if are_none words then Some Publishing else None
+abbrev pub publishing_read : List (List ℕ) → Option Event
+publishing_read words = if are_none words then Some Publishing else None
 
 abbrev pub fault_event : List ℕ → List (List ℕ) → Option Event
 fault_event word words =
-    if bytes_eq (codes "merging") word then merging_of words
-    else if bytes_eq (codes "planned") word then planned_of words
-    else if bytes_eq (codes "fault") word then fault_of words
-    else if bytes_eq (codes "refused") word then option_map (λ cause. Refused cause) (cause_of words)
+    if bytes_eq (codes "merging") word then merging_read words
+    else if bytes_eq (codes "planned") word then planned_read words
+    else if bytes_eq (codes "fault") word then fault_read words
+    else if bytes_eq (codes "refused") word then option_map (λ cause. Refused cause) (cause_read words)
     else None
 
 abbrev pub ticket_event : List ℕ → List (List ℕ) → Option Event
 ticket_event word words =
     if bytes_eq (codes "opened") word then option_map (λ p. Opened p.0 p.1 p.2) (node_ticket_version words)
     else if bytes_eq (codes "asking") word then option_map (λ p. Asking p.0 p.1 p.2) (node_ticket_version words)
-    else if bytes_eq (codes "closed") word then option_and_then (λ p. option_map (λ t. Closed p.0 t) (ticket_of p.1)) (node_first words)
-    else if bytes_eq (codes "promoted") word then promoted_of words
+    else if bytes_eq (codes "closed") word then option_and_then (λ p. option_map (λ t. Closed p.0 t) (ticket_fitting p.1)) (node_first words)
+    else if bytes_eq (codes "promoted") word then promoted_read words
     else fault_event word words
 
 abbrev pub settle_event : List ℕ → List (List ℕ) → Option Event
 settle_event word words =
     if bytes_eq (codes "settling") word then option_map (λ v. Settling (version_from v)) (one_number words)
     else if bytes_eq (codes "settled") word then option_map (λ v. Settled (version_from v)) (one_number words)
-    else if bytes_eq (codes "crashed") word then option_and_then (λ a. option_map (λ n. Crashed n) (node_of a)) (one_number words)
-    else if bytes_eq (codes "publishing") word then publishing_of words
+    else if bytes_eq (codes "crashed") word then option_and_then (λ a. option_map (λ n. Crashed n) (node_fitting a)) (one_number words)
+    else if bytes_eq (codes "publishing") word then publishing_read words
     else ticket_event word words
 
 abbrev pub commit_event : List ℕ → List (List ℕ) → Option Event
@@ -307,20 +307,20 @@ printed_event word words =
     else commit_event word words
 
 -- the list of a node's files that these words are
-abbrev pub files_of : List (List ℕ) → Option Event
-files_of [] = None
-files_of (word ∷ words) = option_and_then (λ n. option_map (λ names. Files n names) (names_of words)) (node_word word)
+abbrev pub files_read : List (List ℕ) → Option Event
+files_read [] = None
+files_read (word ∷ words) = option_and_then (λ n. option_map (λ names. Files n names) (names_read words)) (node_word word)
 
 -- how many there are, and the hits
-abbrev pub answer_of : List (List ℕ) → Option Answer
-answer_of [] = None
-answer_of (word ∷ words) = option_and_then (λ total. option_map (λ hits. record { total = total; hits = hits }) (hits_of words)) (count_word word)
+abbrev pub answer_read : List (List ℕ) → Option Answer
+answer_read [] = None
+answer_read (word ∷ words) = option_and_then (λ total. option_map (λ hits. record { total = total; hits = hits }) (hits_read words)) (count_word word)
 
 -- the version of an answer and the answer, which these words are
 abbrev pub answered_with : Query → NodeNo → TicketNo → List (List ℕ) → Option Event
 answered_with query n t [] = None
 answered_with query n t (word ∷ words) =
-    option_and_then (λ v. option_map (λ answer. Answered n t (version_from v) query answer) (answer_of words)) (number_of word)
+    option_and_then (λ v. option_map (λ answer. Answered n t (version_from v) query answer) (answer_read words)) (number_read word)
 
 -- the same with the ticket before them
 abbrev pub answered_at : Query → NodeNo → List (List ℕ) → Option Event
@@ -328,28 +328,28 @@ answered_at query n [] = None
 answered_at query n (word ∷ words) = option_and_then (λ t. answered_with query n t words) (ticket_word word)
 
 -- the answer of a query that these words are
-abbrev pub answered_of : Query → List (List ℕ) → Option Event
-answered_of query [] = None
-answered_of query (word ∷ words) = option_and_then (λ n. answered_at query n words) (node_word word)
+abbrev pub answered_read : Query → List (List ℕ) → Option Event
+answered_read query [] = None
+answered_read query (word ∷ words) = option_and_then (λ n. answered_at query n words) (node_word word)
 
 -- the count of an accepted operation, which these words are
-abbrev pub accepted_of : List Op → LineCommand → List (List ℕ) → Option Event
-accepted_of due command words = option_and_then (λ a. option_map (λ seq. Accepted seq (op_told due command)) (count_of a)) (one_number words)
+abbrev pub accepted_read : List Op → LineCommand → List (List ℕ) → Option Event
+accepted_read due command words = option_and_then (λ a. option_map (λ seq. Accepted seq (op_told due command)) (count_fitting a)) (one_number words)
 
 -- how many tasks were done, which these words are
-abbrev pub drained_of : LineCommand → List (List ℕ) → Option Event
-drained_of command words = option_and_then (λ a. option_map (λ done. Drained done (most_of_line command)) (count_of a)) (one_number words)
+abbrev pub drained_read : LineCommand → List (List ℕ) → Option Event
+drained_read command words = option_and_then (λ a. option_map (λ done. Drained done (most_of_line command)) (count_fitting a)) (one_number words)
 
 -- the event that a word names, with these words behind it
 abbrev pub event_with : List Op → LineCommand → List ℕ → List (List ℕ) → Option Event
 event_with due command word words =
-    if bytes_eq (codes "accepted") word then accepted_of due command words
-    else if bytes_eq (codes "answer") word then answered_of (query_of_line command) words
-    else if bytes_eq (codes "files") word then files_of words
-    else if bytes_eq (codes "drained") word then drained_of command words
+    if bytes_eq (codes "accepted") word then accepted_read due command words
+    else if bytes_eq (codes "answer") word then answered_read (query_of_line command) words
+    else if bytes_eq (codes "files") word then files_read words
+    else if bytes_eq (codes "drained") word then drained_read command words
     else printed_event word words
 
 -- the event that words are read as
-abbrev pub event_of : List Op → LineCommand → List (List ℕ) → Option Event
-event_of due command [] = None
-event_of due command (word ∷ words) = event_with due command word words
+abbrev pub event_read : List Op → LineCommand → List (List ℕ) → Option Event
+event_read due command [] = None
+event_read due command (word ∷ words) = event_with due command word words

@@ -3,7 +3,7 @@
 ghost use Rattle.std.specs.Prelude.{◌≡◌, Some, None, if◌then◌else◌};
 ghost use Rattle.file_names.specs.Base36.{base36_value};
 ghost use Rattle.report_reading.specs.Cuts.{later_words};
-ghost use Rattle.report_reading.specs.Readings.{name_of, is_base36_number, segment_named, node_cause as node_cause_lem, fault_cause as fault_cause_lem, cause_named as cause_named_lem, cause_with as cause_with_lem, cause_of, one_name as one_name_lem, kind_named as kind_named_lem, one_kind as one_kind_lem};
+ghost use Rattle.report_reading.specs.Readings.{name_read, is_base36_number, segment_named, node_cause as node_cause_lem, fault_cause as fault_cause_lem, cause_named as cause_named_lem, cause_with as cause_with_lem, cause_read, one_name as one_name_lem, kind_named as kind_named_lem, one_kind as one_kind_lem};
 
 use crate::cuts::{is_last, next_word};
 use crate::numbers::one_number;
@@ -14,7 +14,7 @@ use script_text::is_word;
 
 /// The file's name that a word is.
 pub fn name(word: &[u8]) -> Option<FileName>
-    ensures { result ≡ name_of word.now }
+    ensures { result ≡ name_read word.now }
 {
     match file_name(word) {
         Ok(name) => Some(name),
@@ -122,7 +122,7 @@ fn cause_with(word: &[u8], text: &[u8]) -> Option<Cause>
 
 /// The cause that is left.
 pub fn cause(text: &[u8]) -> Option<Cause>
-    ensures { result ≡ cause_of (later_words text.now) }
+    ensures { result ≡ cause_read (later_words text.now) }
 {
     let (word, rest) = next_word(text)?;
     if is_last(rest) {

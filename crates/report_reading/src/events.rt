@@ -4,7 +4,7 @@ ghost use Rattle.std.specs.Prelude.{◌≡◌, IfOk, MatchOption, Some, None};
 ghost use Rattle.std.specs.List.{list_all};
 ghost use Rattle.nrt_base.specs.Bytes.{is_key_byte as is_key_byte_lem, is_key as is_key_lem};
 ghost use Rattle.report_reading.specs.Cuts.{later_words};
-ghost use Rattle.report_reading.specs.Readings.{IsEventRead, rank_length as rank_length_lem, hit_of, hits_of, names_of, files_of, answer_of, answered_with as answered_with_lem, answered_at as answered_at_lem, answered_of, accepted_of, drained_of, event_with as event_with_lem};
+ghost use Rattle.report_reading.specs.Readings.{IsEventRead, rank_length as rank_length_lem, hit_read, hits_read, names_read, files_read, answer_read, answered_with as answered_with_lem, answered_at as answered_at_lem, answered_read, accepted_read, drained_read, event_with as event_with_lem};
 
 use crate::causes::name;
 use crate::cuts::next_word;
@@ -46,7 +46,7 @@ fn rank_length(word: &[u8]) -> usize
 
 /// The hit that a word is.
 fn hit(alloc: Global, word: &[u8]) -> Result<Option<Hit>, NoMemory>
-    ensures { IfOk result (λ read. read ≡ hit_of word.now) }
+    ensures { IfOk result (λ read. read ≡ hit_read word.now) }
 {
     let (front, back) = word.split_at(rank_length(word));
     let Some(rank) = count_word(front) else {
@@ -64,8 +64,8 @@ fn hit(alloc: Global, word: &[u8]) -> Result<Option<Hit>, NoMemory>
 
 /// The hits that are left.
 fn hits(alloc: Global, text: &[u8]) -> Result<Option<Vec<Hit>>, NoMemory>
-    ensures { IfOk result (λ read. MatchOption read (hits_of (later_words text.now) ≡ None)
-        (λ hits. hits_of (later_words text.now) ≡ Some hits.items)) }
+    ensures { IfOk result (λ read. MatchOption read (hits_read (later_words text.now) ≡ None)
+        (λ hits. hits_read (later_words text.now) ≡ Some hits.items)) }
 {
     let mut hits = Vec::new(alloc);
     let mut left = text;
@@ -81,8 +81,8 @@ fn hits(alloc: Global, text: &[u8]) -> Result<Option<Vec<Hit>>, NoMemory>
 
 /// The names that are left.
 fn names(alloc: Global, text: &[u8]) -> Result<Option<Vec<FileName>>, NoMemory>
-    ensures { IfOk result (λ read. MatchOption read (names_of (later_words text.now) ≡ None)
-        (λ names. names_of (later_words text.now) ≡ Some names.items)) }
+    ensures { IfOk result (λ read. MatchOption read (names_read (later_words text.now) ≡ None)
+        (λ names. names_read (later_words text.now) ≡ Some names.items)) }
 {
     let mut names = Vec::new(alloc);
     let mut left = text;
@@ -98,7 +98,7 @@ fn names(alloc: Global, text: &[u8]) -> Result<Option<Vec<FileName>>, NoMemory>
 
 /// How many documents match and the hits, which are left.
 fn answer(alloc: Global, text: &[u8]) -> Result<Option<Answer>, NoMemory>
-    ensures { IfOk result (λ read. read ≡ answer_of (later_words text.now)) }
+    ensures { IfOk result (λ read. read ≡ answer_read (later_words text.now)) }
 {
     let Some((word, rest)) = next_word(text) else {
         return Ok(None);
@@ -164,7 +164,7 @@ fn answered_at(
 
 /// The answer of a query that is left.
 fn answered(alloc: Global, query: Query, text: &[u8]) -> Result<Option<Event>, NoMemory>
-    ensures { IfOk result (λ read. read ≡ answered_of query (later_words text.now)) }
+    ensures { IfOk result (λ read. read ≡ answered_read query (later_words text.now)) }
 {
     let Some((word, rest)) = next_word(text) else {
         return Ok(None);
@@ -177,7 +177,7 @@ fn answered(alloc: Global, query: Query, text: &[u8]) -> Result<Option<Event>, N
 
 /// The list of a node's files that is left.
 fn files(alloc: Global, text: &[u8]) -> Result<Option<Event>, NoMemory>
-    ensures { IfOk result (λ read. read ≡ files_of (later_words text.now)) }
+    ensures { IfOk result (λ read. read ≡ files_read (later_words text.now)) }
 {
     let Some((word, rest)) = next_word(text) else {
         return Ok(None);
@@ -202,7 +202,7 @@ fn accepted(
     text: &[u8],
 ) -> Result<Option<Event>, NoMemory>
     ensures { IfOk result (λ read. read
-        ≡ accepted_of due.now command.now (later_words text.now)) }
+        ≡ accepted_read due.now command.now (later_words text.now)) }
 {
     let Some(number) = one_number(text) else {
         return Ok(None);
@@ -216,7 +216,7 @@ fn accepted(
 
 /// The tasks that a line did, which are left.
 fn drained(command: &LineCommand, text: &[u8]) -> Option<Event>
-    ensures { result ≡ drained_of command.now (later_words text.now) }
+    ensures { result ≡ drained_read command.now (later_words text.now) }
 {
     let done = count(one_number(text)?)?;
     let most = most_of_line(command);

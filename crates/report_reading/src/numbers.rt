@@ -2,7 +2,7 @@
 
 ghost use Rattle.std.specs.Prelude.{◌≡◌};
 ghost use Rattle.report_reading.specs.Cuts.{later_words};
-ghost use Rattle.report_reading.specs.Readings.{node_of, ticket_of, count_of, node_word as node_word_lem, ticket_word as ticket_word_lem, count_word as count_word_lem, one_number as one_number_lem, two_numbers as two_numbers_lem, three_numbers as three_numbers_lem, node_first as node_first_lem, node_version as node_version_lem, node_ticket_version as node_ticket_version_lem, node_count as node_count_lem, node_counts as node_counts_lem};
+ghost use Rattle.report_reading.specs.Readings.{node_fitting, ticket_fitting, count_fitting, node_word as node_word_lem, ticket_word as ticket_word_lem, count_word as count_word_lem, one_number as one_number_lem, two_numbers as two_numbers_lem, three_numbers as three_numbers_lem, node_first as node_first_lem, node_version as node_version_lem, node_ticket_version as node_ticket_version_lem, node_count as node_count_lem, node_counts as node_counts_lem};
 
 use crate::cuts::{is_last, next_word};
 use nrt_base::{NodeNo, TicketNo, Version};
@@ -10,14 +10,14 @@ use script_text::number_u64;
 
 /// A node of 8 bits.
 pub fn node(n: u64) -> Option<NodeNo>
-    ensures { result ≡ node_of n }
+    ensures { result ≡ node_fitting n }
 {
     if n < 256 { Some(NodeNo(n as u8)) } else { None }
 }
 
 /// A ticket of 16 bits.
 pub fn ticket(n: u64) -> Option<TicketNo>
-    ensures { result ≡ ticket_of n }
+    ensures { result ≡ ticket_fitting n }
 {
     if n < 65536 {
         Some(TicketNo(n as u16))
@@ -28,7 +28,7 @@ pub fn ticket(n: u64) -> Option<TicketNo>
 
 /// A count of 32 bits.
 pub fn count(n: u64) -> Option<u32>
-    ensures { result ≡ count_of n }
+    ensures { result ≡ count_fitting n }
 {
     if n < 4_294_967_296 {
         Some(n as u32)

@@ -2,7 +2,7 @@
 
 ghost use Rattle.std.specs.Prelude.{◌≡◌};
 ghost use Rattle.report_reading.specs.Cuts.{later_words};
-ghost use Rattle.report_reading.specs.Readings.{planned_with as planned_with_lem, planned_of, fault_of, merging_of, promoted_of, publishing_of, fault_event as fault_event_lem, ticket_event as ticket_event_lem, settle_event as settle_event_lem, commit_event as commit_event_lem, printed_event as printed_event_lem};
+ghost use Rattle.report_reading.specs.Readings.{planned_with as planned_with_lem, planned_read, fault_read, merging_read, promoted_read, publishing_read, fault_event as fault_event_lem, ticket_event as ticket_event_lem, settle_event as settle_event_lem, commit_event as commit_event_lem, printed_event as printed_event_lem};
 
 use crate::causes::{cause, one_kind, segment};
 use crate::cuts::{is_last, next_word};
@@ -47,14 +47,14 @@ fn planned_with(word: &[u8], text: &[u8]) -> Option<Event>
 }
 
 fn planned(text: &[u8]) -> Option<Event>
-    ensures { result ≡ planned_of (later_words text.now) }
+    ensures { result ≡ planned_read (later_words text.now) }
 {
     let (word, rest) = next_word(text)?;
     planned_with(word, rest)
 }
 
 fn fault(text: &[u8]) -> Option<Event>
-    ensures { result ≡ fault_of (later_words text.now) }
+    ensures { result ≡ fault_read (later_words text.now) }
 {
     let (word, rest) = next_word(text)?;
     let n = node_word(word)?;
@@ -65,7 +65,7 @@ fn fault(text: &[u8]) -> Option<Event>
 }
 
 fn merging(text: &[u8]) -> Option<Event>
-    ensures { result ≡ merging_of (later_words text.now) }
+    ensures { result ≡ merging_read (later_words text.now) }
 {
     let (word, rest) = next_word(text)?;
     if !is_last(rest) {
@@ -77,7 +77,7 @@ fn merging(text: &[u8]) -> Option<Event>
 }
 
 fn promoted(text: &[u8]) -> Option<Event>
-    ensures { result ≡ promoted_of (later_words text.now) }
+    ensures { result ≡ promoted_read (later_words text.now) }
 {
     let (word, rest) = next_word(text)?;
     let n = node_word(word)?;
@@ -91,7 +91,7 @@ fn promoted(text: &[u8]) -> Option<Event>
 }
 
 fn publishing(text: &[u8]) -> Option<Event>
-    ensures { result ≡ publishing_of (later_words text.now) }
+    ensures { result ≡ publishing_read (later_words text.now) }
 {
     if is_last(text) {
         Some(Event::Publishing)

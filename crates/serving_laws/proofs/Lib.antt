@@ -1,5 +1,5 @@
 mod FinishLemmas
 mod FitLemmas
 mod PlainServingLaws
-mod ReplayLemmas
+pub mod ReplayLemmas
 pub mod Unprinted

@@ -4,7 +4,8 @@ use Rattle.disk_memory.specs.contracts.memory.MemDir as mem
 use Rattle.disk_memory.specs.contracts.memory.MemDirFaultDir.TheImpl as fault
 use Rattle.disk_memory.specs.contracts.memory.MemDirDir.TheImpl as dir
 use Rattle.cluster_state.specs.contracts.cluster.ClusterState as state
-use Rattle.cluster_run.proofs.StateParts.{state_send}
+use Rattle.cluster_site.specs.contracts.site.Site as site
+use Rattle.cluster_run.proofs.StateParts.{state_send, site_send}
 use Rattle.cluster_run.proofs.Scripts.{lines_run, left_serves}
 use Rattle.cluster_run.proofs.script.run_script.Goals as goal
 
@@ -23,5 +24,14 @@ sent-requires-4-send-T g c κs =
         (λ vs. c.sent-2.ensures.owned d.tasks vs, λ k. c.sent-2.ensures.leaving yes d.tasks),
         ((λ vs. c.sent-3.ensures.owned d.places vs, λ k. c.sent-3.ensures.leaving yes d.places), (search sendable, tt)),
       ),
+    )) in
+    param_send _ _ (arg_send _ yes _ row)
+
+pub sent-requires-7-send-T : goal.sent-requires-7-send-T
+sent-requires-7-send-T g c κs =
+    let row : IsSend (site.the_row mem.the_row fault.ghosts dir.ghosts) =
+    site_send mem.the_row fault.ghosts dir.ghosts (λ d. (
+      (λ vs. c.sent-5.ensures.owned d.cluster vs, λ k. c.sent-5.ensures.leaving yes d.cluster),
+      ((λ vs. c.sent-6.ensures.owned d.log vs, λ k. c.sent-6.ensures.leaving yes d.log), tt),
     )) in
     param_send _ _ (arg_send _ yes _ row)

@@ -1,7 +1,7 @@
 use Rattle.std.proofs.Common.{refl, sym, ◌∙◌, reverse}
 use Rattle.std.proofs.lemmas.Bool.{false≢true}
 use Rattle.script_serving.specs.Lines.{lines_of_lane}
-use Rattle.report_judge.specs.Replaying.{due_of}
+use Rattle.report_judge.specs.Replaying.{left_to_replay}
 use Rattle.report_judge.proofs.ServingLaws.{stands_told, told_there, none_fits, phase_of, replay_next, turn_next}
 use Rattle.report_judge.proofs.judging.fits_next.Goals as goal
 
@@ -13,7 +13,7 @@ pub returns-then-not-branch : goal.returns-then-not-branch
 returns-then-not-branch c = (
   λ h. absurd (false≢true h),
   λ fits.
-      let here = stands_told c.args.script.now (due_of c.args.shown.now.replay) c.args.entry.now c.in-Some.line.now c.requires.form c.requires.told (sym c.in-Some.ensures) in
+      let here = stands_told c.args.script.now (left_to_replay c.args.shown.now.replay) c.args.entry.now c.in-Some.line.now c.requires.form c.requires.told (sym c.in-Some.ensures) in
       let phase = phase_of c.args.script.now (reverse c.args.entries.now) c.args.entry.now c.in-Some.line.now.command here fits in
       let k = c.if-not-branch.true in
       let h = c.in_ok-is_in_phase.ensures in
@@ -22,14 +22,14 @@ returns-then-not-branch c = (
 
 pub returns-then-not-is_done : goal.returns-then-not-is_done
 returns-then-not-is_done c =
-    let here = stands_told c.args.script.now (due_of c.args.shown.now.replay) c.args.entry.now c.in-Some.line.now c.requires.form c.requires.told (sym c.in-Some.ensures) in
-    let told = told_there c.args.script.now (due_of c.args.shown.now.replay) c.args.entry.now c.in-Some.line.now c.requires.told (sym c.in-Some.ensures) in
-    replay_next c.args.script.now (reverse c.args.entries.now) c.args.entry.now c.in-Some.line.now.command here (due_of c.args.shown.now.replay) c.requires.shown.replay.due
+    let here = stands_told c.args.script.now (left_to_replay c.args.shown.now.replay) c.args.entry.now c.in-Some.line.now c.requires.form c.requires.told (sym c.in-Some.ensures) in
+    let told = told_there c.args.script.now (left_to_replay c.args.shown.now.replay) c.args.entry.now c.in-Some.line.now c.requires.told (sym c.in-Some.ensures) in
+    replay_next c.args.script.now (reverse c.args.entries.now) c.args.entry.now c.in-Some.line.now.command here (left_to_replay c.args.shown.now.replay) c.requires.shown.replay.due
     (λ none. let h = c.if-not-is_done.ensures.1 none in cc) told (sym c.in_ok-is_in_phase.ensures ∙ c.if-not-branch.false) c.fits_replay.result c.fits_replay.ensures
 
 pub returns : goal.returns
 returns c =
-    let here = stands_told c.args.script.now (due_of c.args.shown.now.replay) c.args.entry.now c.in-Some.line.now c.requires.form c.requires.told (sym c.in-Some.ensures) in
+    let here = stands_told c.args.script.now (left_to_replay c.args.shown.now.replay) c.args.entry.now c.in-Some.line.now c.requires.form c.requires.told (sym c.in-Some.ensures) in
     let lines = lines_of_lane c.args.entry.now.at.lane.0 c.args.script.now in
-    turn_next c.args.script.now (reverse c.args.entries.now) c.args.entry.now c.in-Some.line.now.command here (due_of c.args.shown.now.replay) c.requires.shown.replay.due
+    turn_next c.args.script.now (reverse c.args.entries.now) c.args.entry.now c.in-Some.line.now.command here (left_to_replay c.args.shown.now.replay) c.requires.shown.replay.due
     (c.if-not-is_done.ensures.0 refl) (sym c.in_ok-is_in_phase.ensures ∙ c.if-not-branch.false) c.fits_turn.result (c.fits_turn.ensures lines (c.as_slice.ensures.value ∙ c.in_ok-places.ensures))

@@ -5,7 +5,7 @@ use Rattle.history_rules.specs.Nodes.{Past}
 use Rattle.report_judge.specs.Judgements.{FitsNext}
 use Rattle.report_judge.specs.Readings.{IsEntryOf, IsEntryRead}
 use Rattle.report_judge.specs.Walks.{IsShown, ServesTo}
-use Rattle.report_judge.specs.declared.judging.Stop.TheVariants.{Unserved, Unread}
+use Rattle.report_judge.specs.declared.judging.WalkEnd.TheVariants.{Unserved, Unread}
 use Rattle.report_judge.proofs.WalkLaws.{walk_ends, some_left, none_begins, none_fits_there, serves_next, reversed_push}
 use Rattle.report_judge.proofs.judging.walk.Goals as goal
 

@@ -1,11 +1,11 @@
 use Rattle.std.proofs.Common.{◌≡◌, ◌++◌, length}
 use Rattle.std.specs.Option.{option_map}
 use Rattle.report_reading.specs.Cuts.{later_words}
-use Rattle.report_reading.specs.Readings.{hits_of}
+use Rattle.report_reading.specs.Readings.{hits_read}
 use Rattle.report_reading.proofs.events.hits.Given as goal
 
 abbrev pub invariant-loop-word : goal.invariant-loop-word
-invariant-loop-word l = hits_of (later_words l.text) ≡ option_map (λ xs. l.hits.items ++ xs) (hits_of (later_words l.left))
+invariant-loop-word l = hits_read (later_words l.text) ≡ option_map (λ xs. l.hits.items ++ xs) (hits_read (later_words l.left))
 
 abbrev pub decreases-loop-word : goal.decreases-loop-word
 decreases-loop-word l = length l.left

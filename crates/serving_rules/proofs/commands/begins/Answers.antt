@@ -1,7 +1,7 @@
 use Rattle.std.proofs.Common.{subst, sym, reverse, IsTrue, ◌↔◌}
 use Rattle.script_serving.specs.declared.script.LineCommand.{LineCommand}
 use Rattle.script_serving.specs.Serves.{Begins}
-use Rattle.report_judge.proofs.commands.begins.Goals as goal
+use Rattle.serving_rules.proofs.commands.begins.Goals as goal
 
 pub returns-in-Put : goal.returns-in-Put
 returns-in-Put c =

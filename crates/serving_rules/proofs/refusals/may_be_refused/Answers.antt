@@ -1,7 +1,7 @@
 use Rattle.std.proofs.Common.{◌≡◌, subst, sym, reverse, IfOk}
 use Rattle.script_serving.specs.declared.script.LineCommand.{LineCommand}
 use Rattle.script_serving.specs.Refusals.{may_be_refused}
-use Rattle.report_judge.proofs.refusals.may_be_refused.Goals as goal
+use Rattle.serving_rules.proofs.refusals.may_be_refused.Goals as goal
 
 pub returns-in-Publish : goal.returns-in-Publish
 returns-in-Publish c =

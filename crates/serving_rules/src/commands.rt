@@ -302,7 +302,7 @@ fn follows_commit(n: NodeNo, event: &Event) -> bool
 }
 
 /// Whether an entry follows the start of a line, behind this entry of it: a switch, the reply, or a refusal.
-#[tactic(auto, using(crate::proofs::ServingLaws::none_follows))]
+#[tactic(auto, using(crate::proofs::FollowLaws::none_follows))]
 pub fn follows(command: &LineCommand, last: &Event, event: &Event) -> bool
     requires told { as_told [] command.now event.now ≡ event.now }
     ensures { IsTrue result ↔ Follows command.now last.now event.now }

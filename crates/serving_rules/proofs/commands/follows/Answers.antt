@@ -1,7 +1,7 @@
 use Rattle.std.proofs.Common.{subst, sym, IsTrue, ◌↔◌}
 use Rattle.script_serving.specs.declared.script.LineCommand.{LineCommand}
 use Rattle.script_serving.specs.Serves.{Follows}
-use Rattle.report_judge.proofs.commands.follows.Goals as goal
+use Rattle.serving_rules.proofs.commands.follows.Goals as goal
 
 pub returns-in-Publish : goal.returns-in-Publish
 returns-in-Publish c =

@@ -1,0 +1,2 @@
+mod Reigns
+mod Steps
