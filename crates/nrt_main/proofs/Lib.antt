@@ -7,3 +7,4 @@ mod AnswerLaws
 mod FrameAnswers
 mod CheckAnswers
 mod Complete
+mod Shown

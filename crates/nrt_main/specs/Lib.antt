@@ -5,6 +5,7 @@ pub mod Check
 pub mod Complete
 pub mod Load
 pub mod Judge
+pub mod Pictures
 pub mod Rows
 pub mod Statuses
 pub mod TopCalls

@@ -5,7 +5,8 @@ use Rattle.nrt_main.specs.Frames.{IsFrames}
 use Rattle.nrt_main.specs.Check.{IsCheck}
 use Rattle.nrt_main.specs.Load.{IsLoad}
 use Rattle.nrt_main.specs.Judge.{IsJudge}
+use Rattle.nrt_main.specs.Pictures.{IsShowing}
 
--- the words are a row of the table: `run`, `frames`, `check`, `load N` or `judge`
+-- the words are a row of the table: `run`, `frames`, `check`, `load N`, `judge`, `picture` or `picture svg`
 abbrev pub IsKnownRow : List (List ℕ) → Type 0
-IsKnownRow words = IsRun words ⊎ (IsFrames words ⊎ (IsCheck words ⊎ (IsLoad words ⊎ IsJudge words)))
+IsKnownRow words = IsRun words ⊎ (IsFrames words ⊎ (IsCheck words ⊎ (IsLoad words ⊎ (IsJudge words ⊎ IsShowing words))))

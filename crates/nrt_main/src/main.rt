@@ -11,6 +11,7 @@ mod gate;
 mod judging;
 mod loading;
 mod message;
+mod picturing;
 mod reading;
 #[cfg(test)]
 mod sentences;

@@ -11,6 +11,9 @@ ghost use Rattle.nrt_main.specs.Check.{IsCheck, RanCheck, FoundWrong, RanCheckIn
 ghost use Rattle.nrt_main.specs.Complete.{NoneFailed, OffersScript, OffersMessages, OffersImage, IsDoneOrMemory, IsCheckedOrMemory};
 ghost use Rattle.nrt_main.specs.Judge.{IsJudge, RanJudge, FoundIllegal, RanJudgeInPart, RefusesJudge, AnswersJudge};
 ghost use Rattle.nrt_main.specs.Load.{IsLoad, IsLoadOf, LeavesSummary, LeavesSummaryInPart, IsLoadAnswer};
+ghost use Rattle.run_picture.specs.Picture.{picture_of};
+ghost use Rattle.run_drawing.specs.Drawing.{drawing_of};
+ghost use Rattle.nrt_main.specs.Pictures.{IsPicture, IsDrawing, IsShowing, Showed, ShowedInPart};
 ghost use Rattle.nrt_main.specs.Rows.{IsKnownRow};
 ghost use Rattle.nrt_main.specs.TopCalls.{IsRefusal, IsReport, LeavesText, LeavesFront};
 
@@ -18,6 +21,7 @@ use crate::built::first_not_built;
 use crate::checking::check_source;
 use crate::judging::judge_source;
 use crate::loading::{load, load_asked};
+use crate::picturing::{PictureKind, show_source};
 use crate::reading::{ReadEnd, read_all};
 use crate::status::Status;
 use crate::writing::write_all;
@@ -131,6 +135,16 @@ fn is_word(words: &[Arg], word: &[u8]) -> bool
     }
 }
 
+/// Whether the words are these two.
+fn is_pair(words: &[Arg], one: &[u8], other: &[u8]) -> bool
+    ensures { IsTrue result ↔ (words.now ≡ one.now ∷ other.now ∷ []) }
+{
+    match words {
+        [first, second] => is_same(first.as_slice(), one) && is_same(second.as_slice(), other),
+        _ => false,
+    }
+}
+
 /// Reads a script from the source, runs it, and writes its report to the sink.
 fn run_source<R: Threads + Wait + Sync, S: Source, K: Sink, G: Gate + Sync>(
     rt: &R,
@@ -238,6 +252,9 @@ fn frames_source<S: Source, K: Sink>(alloc: Global, source: &mut S, sink: &mut K
 /// sink. Where it is done, the source was read to its end, and the report is the text of a legal history that serves the script. `BadReport`
 /// says that it goes wrong, and the sink gained the line that says where and why.
 ///
+/// `picture`: it runs a script as `run` does, and writes a row for each entry of its history to the sink, with what the entries up to it
+/// show of each node. `picture svg` writes the drawing of that history. Both leave no cluster in `kept`.
+///
 /// On every answer but `Done`, `WriteFault`, `BadIndex` and `BadReport` the sink is as before.
 #[tactic(auto, using(crate::proofs::Loads::one_word, crate::proofs::Loads::no_word, crate::proofs::Loads::takes_none, crate::proofs::Complete::script_done, crate::proofs::Complete::load_done))]
 pub fn run_nrt<R: Threads + Wait + Sync, S: Source, K: Sink, G: Gate + Sync>(
@@ -324,6 +341,22 @@ pub fn run_nrt<R: Threads + Wait + Sync, S: Source, K: Sink, G: Gate + Sync>(
         → result ≢ Status.TooLarge → result ≢ Status.Memory
         → AnswersJudge (S.left source.old) (S.left source.new) result }
 
+    // `picture`, and `picture svg`.
+    ensures picture_done { IsPicture words.now → result ≡ Status.Done → Showed picture_of
+        (S.left source.old) (S.left source.new) (K.held sink.old) (K.held sink.new) }
+    ensures picture_part { IsPicture words.now → result ≡ Status.WriteFault → ShowedInPart picture_of
+        (S.left source.old) (S.left source.new) (K.held sink.old) (K.held sink.new) }
+    ensures drawing_done { IsDrawing words.now → result ≡ Status.Done → Showed drawing_of
+        (S.left source.old) (S.left source.new) (K.held sink.old) (K.held sink.new) }
+    ensures drawing_part { IsDrawing words.now → result ≡ Status.WriteFault → ShowedInPart drawing_of
+        (S.left source.old) (S.left source.new) (K.held sink.old) (K.held sink.new) }
+    ensures shows_bad { (n : LineNo) (cause : LineFault) → IsShowing words.now
+        → result ≡ Status.BadScript n cause
+        → Refuses (S.left source.old) (S.left source.new) n.0 cause }
+    ensures shows_answers { IsShowing words.now → result ≢ Status.ReadFault
+        → result ≢ Status.TooLarge → result ≢ Status.Memory
+        → AnswersWhole (S.left source.old) (S.left source.new) result }
+
     // Where no read and no write failed, and the source has left what is asked for, all is done, or memory ran out.
     ensures complete { IsRun words.now → OffersScript (S.left source.old)
         → NoneFailed (S.fault_count source.old) (S.fault_count source.new)
@@ -334,10 +367,13 @@ pub fn run_nrt<R: Threads + Wait + Sync, S: Source, K: Sink, G: Gate + Sync>(
     ensures check_complete { IsCheck words.now → OffersImage (S.left source.old)
         → NoneFailed (S.fault_count source.old) (S.fault_count source.new)
         (K.fault_count sink.old) (K.fault_count sink.new) → IsCheckedOrMemory result }
+    ensures shows_complete { IsShowing words.now → OffersScript (S.left source.old)
+        → NoneFailed (S.fault_count source.old) (S.fault_count source.new)
+        (K.fault_count sink.old) (K.fault_count sink.new) → IsDoneOrMemory result }
     ensures load_complete { IsLoad words.now
         → K.fault_count sink.new ≡ K.fault_count sink.old → IsDoneOrMemory result }
 
-    // All five.
+    // All.
     ensures read { result ≡ Status.ReadFault → S.fault_count source.old < S.fault_count source.new }
     ensures write { result ≡ Status.WriteFault → K.fault_count sink.old < K.fault_count sink.new }
     ensures large { result ≡ Status.TooLarge → TakesMore (S.left source.old) (S.left source.new) }
@@ -354,6 +390,10 @@ pub fn run_nrt<R: Threads + Wait + Sync, S: Source, K: Sink, G: Gate + Sync>(
         check_source(alloc, source, sink)
     } else if is_word(words, b"judge") {
         judge_source(alloc, source, sink)
+    } else if is_word(words, b"picture") {
+        show_source(rt, alloc, gate, PictureKind::Rows, source, sink)
+    } else if is_pair(words, b"picture", b"svg") {
+        show_source(rt, alloc, gate, PictureKind::Drawing, source, sink)
     } else {
         match load_asked(words) {
             Some(n) => load(rt, alloc, gate, words, n, sink, kept),

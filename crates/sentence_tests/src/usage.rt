@@ -5,12 +5,13 @@ use std::test::Fail;
 use usage_text::{asked, mistake};
 
 // What a help has: each command, and the statuses.
-const PARTS: [&str; 8] = [
+const PARTS: [&str; 9] = [
     "nrt run < SCRIPT",
     "nrt load N",
     "nrt check < IMAGE",
     "nrt frames < STREAM",
     "nrt judge < SCRIPT_AND_REPORT",
+    "nrt picture [svg] < SCRIPT",
     "EXIT STATUS:\n    0   done\n",
     "\n    10  frames: the stream is bad\n",
     "\n    11  judge: the report is not that of a legal history\n",

@@ -17,7 +17,8 @@ const USAGE: &str = "nrt run < SCRIPT\n\
     \x20      nrt load N\n\
     \x20      nrt check < IMAGE\n\
     \x20      nrt frames < STREAM\n\
-    \x20      nrt judge < SCRIPT_AND_REPORT";
+    \x20      nrt judge < SCRIPT_AND_REPORT\n\
+    \x20      nrt picture [svg] < SCRIPT";
 
 const NOTES: &str = "EXAMPLE of a script:\n\
     \x20   nodes 2\n\
@@ -40,6 +41,9 @@ const NOTES: &str = "EXAMPLE of a script:\n\
     \x20   9   check: the input is no image of a directory\n\
     \x20   10  frames: the stream is bad\n\
     \x20   11  judge: the report is not that of a legal history";
+
+/// The word that may stand behind `picture`.
+const FORMS: &[&str] = &["svg"];
 
 const NUMBERS: &str = "a number is decimal, without a sign and without leading zeros";
 
@@ -67,6 +71,13 @@ fn program<'a>(alloc: Global) -> Result<Command<'a>, AllocError> {
         "nrt load N",
         "Run the generated script of N documents, 1 to 10000; write its totals",
     );
+    let picture = row(
+        alloc,
+        "picture",
+        "nrt picture [svg] < SCRIPT",
+        "Run the script on standard input; write a picture of the run, or a drawing (svg)",
+    );
+    let form = Arg::new(alloc, "svg").value_parser(FORMS);
     Command::new(alloc, "nrt")
         .version(VERSION)
         .about(ABOUT)
@@ -98,7 +109,8 @@ fn program<'a>(alloc: Global) -> Result<Command<'a>, AllocError> {
             "judge",
             "nrt judge < SCRIPT_AND_REPORT",
             "Judge a report: whether it is that of a legal history of its script",
-        ))
+        ))?
+        .subcommand(picture.arg(form)?)
 }
 
 /// What the program says where this word alone stands behind its name: its help (`-h`, `--help`) or its version (`-V`, `--version`).
