@@ -7,9 +7,9 @@ use Rattle.nrt_base.specs.declared.numbers.At.{At}
 use Rattle.nrt_base.specs.declared.numbers.NodeNo.{NodeNo}
 use Rattle.nrt_base.specs.declared.numbers.Version.{Version}
 use Rattle.disk_model.specs.Disk.{Name, Content, Cells}
-use Rattle.replica_state.specs.declared.job.PointJob.{PointJob}
-use Rattle.replica_state.specs.declared.parts.ReplicaParts.{ReplicaParts}
-use Rattle.replica_state.specs.Replica.{IsJobAbove}
+use Rattle.replica_node.specs.declared.job.PointJob.{PointJob}
+use Rattle.replica_node.specs.declared.parts.ReplicaParts.{ReplicaParts}
+use Rattle.replica_node.specs.Replica.{IsJobAbove}
 use Rattle.history_rules.specs.declared.entry.Event.TheVariants.{Publishing, Copying, Copied}
 use Rattle.history_rules.specs.Nodes.{Past, IsNode, IsReplica, crashes, primary_of, primary_crashes, newest_version, version_of}
 use Rattle.history_rules.specs.Lines.{same_at, start_entry, before_start, without_at, copy_in_flight, is_free_for}

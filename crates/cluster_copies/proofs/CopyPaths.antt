@@ -10,10 +10,10 @@ use Rattle.nrt_base.specs.declared.numbers.Gen.{Gen}
 use Rattle.disk_model.specs.Disk.{Name, Content, Cells}
 use Rattle.segment_infos.specs.declared.infos.Infos.{Infos}
 use Rattle.segment_infos.specs.Files.{files_of_segment, AreFilesOf}
-use Rattle.primary_state.specs.declared.states.Out.{Out}
+use Rattle.index_primary.specs.declared.states.Out.{Out}
 use Rattle.replica_opening.specs.Known.{IsLasting}
-use Rattle.replica_state.specs.declared.job.PointJob.{PointJob}
-use Rattle.replica_state.specs.declared.parts.ReplicaParts.{ReplicaParts}
+use Rattle.replica_node.specs.declared.job.PointJob.{PointJob}
+use Rattle.replica_node.specs.declared.parts.ReplicaParts.{ReplicaParts}
 use Rattle.history_rules.specs.declared.entry.Event.{Event}
 use Rattle.history_rules.specs.declared.entry.Event.TheVariants.{Copying, Settling}
 use Rattle.history_rules.specs.Nodes.{Past, IsNode, IsReplica, is_at, primary_of, primary_crashes, crashes, generation_of, newest_version, version_of}

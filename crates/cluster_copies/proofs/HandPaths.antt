@@ -6,10 +6,10 @@ use Rattle.disk_model.specs.Disk.{Name, Content, Cells}
 use Rattle.copy_state.specs.declared.meta.FileMetaData.{FileMetaData}
 use Rattle.codec_frame.specs.Bytes.{AreBytes}
 use Rattle.codec_frame.specs.Checking.{HasFooter}
-use Rattle.replica_state.specs.declared.job.PointJob.{PointJob}
-use Rattle.replica_state.specs.Replica.{IsJobAbove}
+use Rattle.replica_node.specs.declared.job.PointJob.{PointJob}
+use Rattle.replica_node.specs.Replica.{IsJobAbove}
 use Rattle.copy_state.specs.Meta.{IsMetaOf}
-use Rattle.primary_state.specs.declared.parts.PrimaryParts.{PrimaryParts}
+use Rattle.index_primary.specs.declared.parts.PrimaryParts.{PrimaryParts}
 use Rattle.history_rules.specs.Nodes.{IsNode, IsReplica, is_at, primary_of}
 use Rattle.history_tables.specs.declared.jobs.JobRow.{JobRow}
 use Rattle.history_book.specs.Log.{Log, printed, kept}

@@ -14,22 +14,22 @@ use Rattle.copy_state.specs.declared.meta.FileMetaData.{FileMetaData}
 use Rattle.codec_frame.specs.Bytes.{AreBytes}
 use Rattle.codec_frame.specs.Checking.{HasFooter}
 use Rattle.codec_frame.proofs.FrameLaws.{framed_footer}
-use Rattle.primary_state.specs.Held.{IsHeld}
-use Rattle.primary_state.specs.States.{IsFramedIn, out_of, is_out, state_names}
-use Rattle.primary_state.proofs.Framing.{held_framed}
+use Rattle.index_primary.specs.Held.{IsHeld}
+use Rattle.index_primary.specs.States.{IsFramedIn, out_of, is_out, state_names}
+use Rattle.index_primary.proofs.Framing.{held_framed}
 use Rattle.history_rules.specs.Points.{documents_at}
 use Rattle.copy_state.specs.States.{meta_names}
 use Rattle.commit_steps.proofs.Safe.{contains_of}
 use Rattle.searcher_switch.specs.Searching.{searcher_names}
-use Rattle.primary_state.specs.declared.parts.PrimaryParts.{PrimaryParts}
-use Rattle.primary_state.specs.declared.states.Out.{Out}
-use Rattle.primary_state.specs.Primary.{IsPrimary, primary_names, rest_names}
-use Rattle.primary_state.specs.Merges.{merge_names}
+use Rattle.index_primary.specs.declared.parts.PrimaryParts.{PrimaryParts}
+use Rattle.index_primary.specs.declared.states.Out.{Out}
+use Rattle.index_primary.specs.Primary.{IsPrimary, primary_names, rest_names}
+use Rattle.index_primary.specs.Merges.{merge_names}
 use Rattle.replica_opening.specs.Known.{HasMeta}
-use Rattle.replica_state.specs.declared.job.PointJob.{PointJob}
-use Rattle.replica_state.specs.Jobs.{running_point}
-use Rattle.replica_state.specs.declared.parts.ReplicaParts.{ReplicaParts}
-use Rattle.replica_state.specs.Replica.{IsJobAbove}
+use Rattle.replica_node.specs.declared.job.PointJob.{PointJob}
+use Rattle.replica_node.specs.Jobs.{running_point}
+use Rattle.replica_node.specs.declared.parts.ReplicaParts.{ReplicaParts}
+use Rattle.replica_node.specs.Replica.{IsJobAbove}
 use Rattle.history_rules.specs.Nodes.{IsNode, is_at, primary_of, newest_version}
 use Rattle.history_tables.specs.declared.jobs.Job.{Job}
 use Rattle.history_tables.specs.declared.jobs.JobRow.{JobRow}

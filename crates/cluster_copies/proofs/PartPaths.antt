@@ -13,13 +13,13 @@ use Rattle.copy_state.specs.States.{meta_in}
 use Rattle.copy_state.specs.Meta.{IsMetaOf}
 use Rattle.copy_state.proofs.MetaLaws.{one_meta}
 use Rattle.copy_job.specs.declared.copying.Part.{Part}
-use Rattle.primary_state.specs.declared.states.Out.{Out}
-use Rattle.primary_state.specs.States.{out_of}
+use Rattle.index_primary.specs.declared.states.Out.{Out}
+use Rattle.index_primary.specs.States.{out_of}
 use Rattle.segment_infos.specs.declared.infos.Infos.{Infos}
 use Rattle.replica_opening.specs.Known.{HasMeta}
-use Rattle.replica_state.specs.declared.job.PointJob.{PointJob}
-use Rattle.replica_state.specs.Jobs.{running_point}
-use Rattle.replica_state.specs.declared.parts.ReplicaParts.{ReplicaParts}
+use Rattle.replica_node.specs.declared.job.PointJob.{PointJob}
+use Rattle.replica_node.specs.Jobs.{running_point}
+use Rattle.replica_node.specs.declared.parts.ReplicaParts.{ReplicaParts}
 use Rattle.history_rules.specs.Nodes.{IsNode, IsReplica, version_of, generation_of}
 use Rattle.history_tables.specs.declared.jobs.Job.{Job}
 use Rattle.history_tables.specs.declared.jobs.JobRow.{JobRow}
@@ -44,7 +44,7 @@ use Rattle.cluster_state.proofs.Points.{points_alone}
 use Rattle.cluster_state.proofs.Disks.{commits_alone, disk_moved, disk_same, disks_kept}
 use Rattle.cluster_state.proofs.Frames.{some_at, slot_of, was}
 use Rattle.cluster_nodes.proofs.OutCounts.{jobs_same}
-use Rattle.replica_state.specs.Replica.{IsJobAbove}
+use Rattle.replica_node.specs.Replica.{IsJobAbove}
 use Rattle.cluster_state.proofs.Drawn.{grows_none}
 use Rattle.cluster_state.proofs.Naming.{FilesLast, took_steps}
 use Rattle.cluster_state.proofs.FileFrames.{names_one, Both, both_of, node_files, one_each, wants_same, files_was}

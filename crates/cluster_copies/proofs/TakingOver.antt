@@ -15,17 +15,17 @@ use Rattle.copy_state.specs.declared.state.CopyState.{CopyState}
 use Rattle.copy_state.specs.States.{meta_in, meta_names}
 use Rattle.copy_state.specs.Meta.{IsMetaOf}
 use Rattle.copy_state.proofs.MetaLaws.{one_meta}
-use Rattle.primary_state.specs.declared.parts.PrimaryParts.{PrimaryParts}
+use Rattle.index_primary.specs.declared.parts.PrimaryParts.{PrimaryParts}
 use Rattle.copy_job.specs.Parts.{own_names}
 use Rattle.copy_job.specs.declared.part.JobPart.{JobPart}
 use Rattle.copy_job.specs.Jobs.{Job as Copy, IsJob, is_same_meta, is_taken, taken_parts, taken_over}
 use Rattle.copy_job.proofs.Taking.{meta_self}
 use Rattle.replica_opening.specs.Known.{HasMeta}
-use Rattle.replica_state.specs.declared.job.PointJob.{PointJob}
-use Rattle.replica_state.specs.declared.parts.ReplicaParts.{ReplicaParts}
-use Rattle.replica_state.specs.Jobs.{job_on, job_seen, job_taking, running_point}
-use Rattle.replica_state.specs.Replica.{IsJobAbove}
-use Rattle.replica_state.proofs.Metas.{some_meta}
+use Rattle.replica_node.specs.declared.job.PointJob.{PointJob}
+use Rattle.replica_node.specs.declared.parts.ReplicaParts.{ReplicaParts}
+use Rattle.replica_node.specs.Jobs.{job_on, job_seen, job_taking, running_point}
+use Rattle.replica_node.specs.Replica.{IsJobAbove}
+use Rattle.replica_node.proofs.Metas.{some_meta}
 use Rattle.history_rules.specs.Nodes.{IsNode, generation_of}
 use Rattle.history_tables.specs.declared.jobs.Job.{Job}
 use Rattle.history_book.specs.Log.{Log, printed}

@@ -26,15 +26,15 @@ use Rattle.history_book.specs.Log.{Log, printed, shown, kept}
 use Rattle.history_book.specs.declared.inner.Inner.TheVariants.{MergeOut}
 use Rattle.history_book.specs.Laws.{IsFresh}
 use Rattle.history_book.specs.Turns.{AreInTurn}
-use Rattle.primary_state.specs.declared.parts.PrimaryParts.{PrimaryParts}
-use Rattle.primary_state.specs.declared.parts.Publish.{Publish}
-use Rattle.primary_state.specs.declared.states.Merging.{Merging}
-use Rattle.primary_state.specs.Cut.{infos_drawn}
-use Rattle.primary_state.specs.Held.{drawn_to}
-use Rattle.primary_state.specs.Merges.{merge_loose}
-use Rattle.primary_state.specs.Primary.{IsPrimary, KeepsHeldBytes, publish_loose, rest_loose, loose_of}
-use Rattle.primary_state.specs.Calls.{DrawsOnly, HoldsNoNew}
-use Rattle.primary_state.proofs.MergeLists.{loose_behind}
+use Rattle.index_primary.specs.declared.parts.PrimaryParts.{PrimaryParts}
+use Rattle.index_primary.specs.declared.parts.Publish.{Publish}
+use Rattle.index_primary.specs.declared.states.Merging.{Merging}
+use Rattle.index_primary.specs.Cut.{infos_drawn}
+use Rattle.index_primary.specs.Held.{drawn_to}
+use Rattle.index_primary.specs.Merges.{merge_loose}
+use Rattle.index_primary.specs.Primary.{IsPrimary, KeepsHeldBytes, publish_loose, rest_loose, loose_of}
+use Rattle.index_primary.specs.Calls.{DrawsOnly, HoldsNoNew}
+use Rattle.index_primary.proofs.MergeLists.{loose_behind}
 use Rattle.cluster_nodes.specs.declared.held.HeldTicket.{HeldTicket}
 use Rattle.cluster_nodes.specs.declared.nodes.Node.TheVariants.{Primary}
 use Rattle.cluster_nodes.specs.declared.nodes.NodePlace.{NodePlace}

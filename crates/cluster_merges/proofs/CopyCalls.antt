@@ -13,8 +13,8 @@ use Rattle.copy_state.specs.States.{meta_in}
 use Rattle.copy_state.specs.Meta.{IsMetaOf}
 use Rattle.copy_job.specs.declared.copying.Part.{Part}
 use Rattle.copy_job.specs.Jobs.{Job}
-use Rattle.replica_state.specs.declared.parts.ReplicaParts.{ReplicaParts}
-use Rattle.replica_state.specs.Merges.{copy_at}
+use Rattle.replica_node.specs.declared.parts.ReplicaParts.{ReplicaParts}
+use Rattle.replica_node.specs.Merges.{copy_at}
 use Rattle.history_rules.specs.Nodes.{IsNode, primary_of}
 use Rattle.history_rules.specs.Legal.{IsLegalPast}
 use Rattle.history_book.specs.Log.{Log, printed, kept}

@@ -15,14 +15,14 @@ use Rattle.copy_state.specs.States.{meta_names, meta_in}
 use Rattle.copy_state.specs.Meta.{IsMetaOf}
 use Rattle.copy_state.proofs.MetaLaws.{one_meta}
 use Rattle.copy_job.specs.Jobs.{Job}
-use Rattle.primary_state.specs.declared.parts.PrimaryParts.{PrimaryParts}
+use Rattle.index_primary.specs.declared.parts.PrimaryParts.{PrimaryParts}
 use Rattle.replica_opening.specs.Known.{HasMeta}
-use Rattle.replica_state.specs.declared.job.PointJob.{PointJob}
-use Rattle.replica_state.specs.Jobs.{running_point}
-use Rattle.replica_state.specs.declared.parts.ReplicaParts.{ReplicaParts}
-use Rattle.replica_state.specs.Merges.{copy_at}
-use Rattle.replica_state.specs.Replica.{IsWholeReplica}
-use Rattle.replica_state.proofs.Metas.{meta_some}
+use Rattle.replica_node.specs.declared.job.PointJob.{PointJob}
+use Rattle.replica_node.specs.Jobs.{running_point}
+use Rattle.replica_node.specs.declared.parts.ReplicaParts.{ReplicaParts}
+use Rattle.replica_node.specs.Merges.{copy_at}
+use Rattle.replica_node.specs.Replica.{IsWholeReplica}
+use Rattle.replica_node.proofs.Metas.{meta_some}
 use Rattle.history_rules.specs.Nodes.{IsNode, is_at, primary_of}
 use Rattle.history_rules.specs.Points.{IsDrawnFile}
 use Rattle.history_tables.specs.declared.jobs.Job.{Job as LineJob}

@@ -3,7 +3,7 @@ use Rattle.std.proofs.Common.{◌≡◌, ◌==◌, ◌&&◌, ◌||◌, ℕ, Bool
 use Rattle.std.specs.Prelude.{not, IsSomeAnd}
 use Rattle.std.proofs.lemmas.Bool.{and_parts, eqb-true}
 use Rattle.copy_job.specs.Jobs.{Job}
-use Rattle.replica_state.specs.Merges.{copy_at, copies_with, copies_without, AreCopiesApart}
+use Rattle.replica_node.specs.Merges.{copy_at, copies_with, copies_without, AreCopiesApart}
 use Rattle.merge_tasks.specs.declared.tasks.Sent.{Sent}
 use Rattle.merge_tasks.specs.Board.{is_sent_in, without_sent}
 use Rattle.cluster_state.specs.Merging.{RunsNoOther}

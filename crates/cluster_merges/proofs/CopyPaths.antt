@@ -12,11 +12,11 @@ use Rattle.file_deleter.proofs.NameLemmas.{same_self}
 use Rattle.codec_frame.specs.Bytes.{AreBytes}
 use Rattle.copy_state.specs.declared.meta.FileMetaData.{FileMetaData}
 use Rattle.copy_job.specs.Jobs.{Job}
-use Rattle.primary_state.specs.declared.parts.PrimaryParts.{PrimaryParts}
-use Rattle.primary_state.specs.Primary.{loose_of}
-use Rattle.replica_state.specs.declared.parts.ReplicaParts.{ReplicaParts}
-use Rattle.replica_state.specs.Merges.{copy_at}
-use Rattle.replica_state.specs.Replica.{IsWholeReplica}
+use Rattle.index_primary.specs.declared.parts.PrimaryParts.{PrimaryParts}
+use Rattle.index_primary.specs.Primary.{loose_of}
+use Rattle.replica_node.specs.declared.parts.ReplicaParts.{ReplicaParts}
+use Rattle.replica_node.specs.Merges.{copy_at}
+use Rattle.replica_node.specs.Replica.{IsWholeReplica}
 use Rattle.history_rules.specs.Nodes.{IsNode, primary_of}
 use Rattle.history_book.specs.Log.{Log, printed, kept}
 use Rattle.history_book.specs.declared.inner.Inner.{Inner}

@@ -10,8 +10,8 @@ use Rattle.nrt_base.specs.declared.numbers.SegNo.{SegNo}
 use Rattle.disk_model.specs.Disk.{Cells}
 use Rattle.copy_state.specs.declared.state.CopyState.{CopyState}
 use Rattle.copy_job.specs.Jobs.{Job}
-use Rattle.primary_state.specs.declared.states.Out.{Out}
-use Rattle.primary_state.specs.States.{out_of}
+use Rattle.index_primary.specs.declared.states.Out.{Out}
+use Rattle.index_primary.specs.States.{out_of}
 use Rattle.history_rules.specs.Nodes.{IsNode}
 use Rattle.history_rules.specs.Lines.{same_at}
 use Rattle.history_tables.proofs.RowLemmas.{by_test}

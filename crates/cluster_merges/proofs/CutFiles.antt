@@ -14,17 +14,17 @@ use Rattle.seg_reader.specs.Shown.{Shown}
 use Rattle.searcher_switch.specs.declared.open.Open.{Open}
 use Rattle.searcher_switch.specs.Searching.{searcher_names}
 use Rattle.commit_steps.specs.Book.{book_names}
-use Rattle.primary_state.specs.declared.parts.PrimaryParts.{PrimaryParts}
-use Rattle.primary_state.specs.declared.parts.Publish.{Publish}
-use Rattle.primary_state.specs.declared.states.Merging.{Merging}
-use Rattle.primary_state.specs.declared.states.Out.{Out}
-use Rattle.primary_state.specs.Merges.{merge_names, merge_loose, merges_without}
-use Rattle.primary_state.specs.States.{out_of, state_names, same_out, states_without}
-use Rattle.primary_state.specs.Primary.{IsPrimary, primary_names, publish_loose, rest_loose, loose_of}
-use Rattle.primary_state.proofs.Keeping.{states_split}
-use Rattle.primary_state.proofs.MergeLists.{loose_without, names_split}
-use Rattle.primary_state.proofs.NewFiles.{named_of}
-use Rattle.replica_state.specs.Sources.{HeldReadAs}
+use Rattle.index_primary.specs.declared.parts.PrimaryParts.{PrimaryParts}
+use Rattle.index_primary.specs.declared.parts.Publish.{Publish}
+use Rattle.index_primary.specs.declared.states.Merging.{Merging}
+use Rattle.index_primary.specs.declared.states.Out.{Out}
+use Rattle.index_primary.specs.Merges.{merge_names, merge_loose, merges_without}
+use Rattle.index_primary.specs.States.{out_of, state_names, same_out, states_without}
+use Rattle.index_primary.specs.Primary.{IsPrimary, primary_names, publish_loose, rest_loose, loose_of}
+use Rattle.index_primary.proofs.Keeping.{states_split}
+use Rattle.index_primary.proofs.MergeLists.{loose_without, names_split}
+use Rattle.index_primary.proofs.NewFiles.{named_of}
+use Rattle.replica_node.specs.Sources.{HeldReadAs}
 use Rattle.history_rules.specs.Nodes.{Past, generation_of}
 use Rattle.cluster_nodes.specs.declared.nodes.Node.TheVariants.{Primary}
 use Rattle.cluster_state.proofs.Lasting.{live_lasts, unheld}

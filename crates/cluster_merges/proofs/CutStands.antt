@@ -25,12 +25,12 @@ use Rattle.history_rules.specs.Tasks.{merge_count}
 use Rattle.history_book.specs.Log.{Log, printed, kept}
 use Rattle.history_book.specs.declared.inner.Inner.TheVariants.{MergeEnd, TaskEnd}
 use Rattle.history_book.specs.declared.inner.Step.TheVariants.{Cut as CutStep}
-use Rattle.primary_state.specs.declared.parts.PrimaryParts.{PrimaryParts}
-use Rattle.primary_state.specs.declared.states.Merging.{Merging}
-use Rattle.primary_state.specs.declared.states.Out.{Out}
-use Rattle.primary_state.specs.Merges.{merge_of, merges_without, AreOtherMerges, AreApartMerges}
-use Rattle.primary_state.specs.States.{out_of, is_out, states_without}
-use Rattle.primary_state.proofs.MergeLists.{number_of, others_at}
+use Rattle.index_primary.specs.declared.parts.PrimaryParts.{PrimaryParts}
+use Rattle.index_primary.specs.declared.states.Merging.{Merging}
+use Rattle.index_primary.specs.declared.states.Out.{Out}
+use Rattle.index_primary.specs.Merges.{merge_of, merges_without, AreOtherMerges, AreApartMerges}
+use Rattle.index_primary.specs.States.{out_of, is_out, states_without}
+use Rattle.index_primary.proofs.MergeLists.{number_of, others_at}
 use Rattle.merge_tasks.specs.declared.tasks.OpenMerge.{OpenMerge}
 use Rattle.merge_tasks.specs.declared.tasks.Posted.{Posted}
 use Rattle.merge_tasks.specs.declared.tasks.Sent.{Sent}

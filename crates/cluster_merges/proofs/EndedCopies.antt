@@ -10,9 +10,9 @@ use Rattle.nrt_base.specs.declared.numbers.NodeNo.{NodeNo}
 use Rattle.nrt_base.specs.declared.numbers.SegNo.{SegNo}
 use Rattle.disk_model.specs.Disk.{Cells}
 use Rattle.copy_job.specs.Jobs.{Job}
-use Rattle.primary_state.specs.declared.states.Out.{Out}
-use Rattle.replica_state.specs.declared.parts.ReplicaParts.{ReplicaParts}
-use Rattle.replica_state.specs.Merges.{copy_at}
+use Rattle.index_primary.specs.declared.states.Out.{Out}
+use Rattle.replica_node.specs.declared.parts.ReplicaParts.{ReplicaParts}
+use Rattle.replica_node.specs.Merges.{copy_at}
 use Rattle.history_rules.specs.Nodes.{IsNode}
 use Rattle.history_tables.proofs.RowLemmas.{by_test}
 use Rattle.history_book.specs.Log.{Log, kept}

@@ -7,13 +7,13 @@ use Rattle.file_deleter.specs.Holdings.{count_of}
 use Rattle.file_deleter.proofs.Keeping.{known_counted}
 use Rattle.searcher_switch.specs.Appearing.{AppearsOnly}
 use Rattle.segment_infos.specs.declared.infos.Infos.{Infos}
-use Rattle.primary_state.specs.declared.parts.PrimaryParts.{PrimaryParts}
-use Rattle.primary_state.specs.declared.states.Out.{Out}
-use Rattle.primary_state.specs.Held.{IsOwnFile}
-use Rattle.primary_state.specs.Primary.{IsPrimary, KeepsHeldBytes, IsUnwritten, loose_of}
-use Rattle.primary_state.specs.Calls.{FillsUndrawn, DrawsOnly}
+use Rattle.index_primary.specs.declared.parts.PrimaryParts.{PrimaryParts}
+use Rattle.index_primary.specs.declared.states.Out.{Out}
+use Rattle.index_primary.specs.Held.{IsOwnFile}
+use Rattle.index_primary.specs.Primary.{IsPrimary, KeepsHeldBytes, IsUnwritten, loose_of}
+use Rattle.index_primary.specs.Calls.{FillsUndrawn, DrawsOnly}
 use Rattle.replica_opening.specs.Known.{IsLasting}
-use Rattle.replica_state.specs.Sources.{HeldReadAs}
+use Rattle.replica_node.specs.Sources.{HeldReadAs}
 use Rattle.history_rules.specs.Nodes.{IsNode, is_at, primary_of}
 use Rattle.history_book.specs.Log.{Log, printed}
 use Rattle.cluster_nodes.specs.declared.held.HeldTicket.{HeldTicket}

@@ -16,23 +16,23 @@ use Rattle.copy_job.specs.Jobs.{Job as CopyJob}
 use Rattle.seg_merge.specs.declared.task.Merged.{Merged}
 use Rattle.seg_merge.specs.Merging.{IsMergedOf}
 use Rattle.searcher_switch.specs.Searching.{searcher_names}
-use Rattle.primary_state.specs.declared.parts.PrimaryParts.{PrimaryParts}
-use Rattle.primary_state.specs.declared.states.Merging.{Merging}
-use Rattle.primary_state.specs.Held.{part}
-use Rattle.primary_state.specs.Merges.{merge_of, IsMade, IsMadeBy, IsMerging}
-use Rattle.primary_state.specs.Written.{names_of}
-use Rattle.primary_state.specs.Primary.{publish_loose, rest_loose, loose_of, IsUnwritten, IsPrimary}
-use Rattle.primary_state.proofs.Drawing.{drawn_small}
-use Rattle.primary_state.proofs.MergeLists.{all_at as merge_has, loose_at, unfilled_at, names_split}
-use Rattle.primary_merges.proofs.MergedFiles.{part_among, merged_names}
+use Rattle.index_primary.specs.declared.parts.PrimaryParts.{PrimaryParts}
+use Rattle.index_primary.specs.declared.states.Merging.{Merging}
+use Rattle.index_primary.specs.Held.{part}
+use Rattle.index_primary.specs.Merges.{merge_of, IsMade, IsMadeBy, IsMerging}
+use Rattle.index_primary.specs.Written.{names_of}
+use Rattle.index_primary.specs.Primary.{publish_loose, rest_loose, loose_of, IsUnwritten, IsPrimary}
+use Rattle.index_primary.proofs.Drawing.{drawn_small}
+use Rattle.index_primary.proofs.MergeLists.{all_at as merge_has, loose_at, unfilled_at, names_split}
+use Rattle.index_primary.proofs.MergedFiles.{part_among, merged_names}
 use Rattle.replica_opening.specs.Known.{IsLasting}
-use Rattle.replica_state.specs.declared.job.PointJob.{PointJob}
-use Rattle.replica_state.specs.declared.parts.ReplicaParts.{ReplicaParts}
-use Rattle.replica_state.specs.Merges.{copy_at, running_names, copies_names, CopyApart, AreCopiesApart, SharesNone}
-use Rattle.replica_state.specs.Replica.{IsWholeReplica, names_of_job, copying_names, replica_names}
-use Rattle.replica_state.specs.Sources.{HeldReadAs}
-use Rattle.replica_state.proofs.Merging.{number_at, all_at as copy_has}
-use Rattle.replica_state.proofs.Metas.{some_meta}
+use Rattle.replica_node.specs.declared.job.PointJob.{PointJob}
+use Rattle.replica_node.specs.declared.parts.ReplicaParts.{ReplicaParts}
+use Rattle.replica_node.specs.Merges.{copy_at, running_names, copies_names, CopyApart, AreCopiesApart, SharesNone}
+use Rattle.replica_node.specs.Replica.{IsWholeReplica, names_of_job, copying_names, replica_names}
+use Rattle.replica_node.specs.Sources.{HeldReadAs}
+use Rattle.replica_node.proofs.Merging.{number_at, all_at as copy_has}
+use Rattle.replica_node.proofs.Metas.{some_meta}
 use Rattle.history_tables.specs.declared.jobs.Job.{Job}
 use Rattle.history_book.specs.Log.{Log}
 use Rattle.merge_tasks.specs.declared.tasks.OpenMerge.{OpenMerge}

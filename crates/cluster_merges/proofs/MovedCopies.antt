@@ -14,14 +14,14 @@ use Rattle.seg_reader.specs.Shown.{Shown}
 use Rattle.searcher_switch.specs.declared.open.Open.{Open}
 use Rattle.searcher_switch.specs.declared.open.SearchPoint.{SearchPoint}
 use Rattle.searcher_switch.specs.declared.searchers.Searchers.{Searchers}
-use Rattle.primary_state.specs.declared.states.Out.{Out}
-use Rattle.replica_state.specs.declared.job.PointJob.{PointJob}
-use Rattle.replica_state.specs.declared.merges.MergeCopies.{MergeCopies}
-use Rattle.replica_state.specs.declared.parts.ReplicaParts.{ReplicaParts}
-use Rattle.replica_state.specs.Merges.{copy_at, copies_with, copies_without}
-use Rattle.replica_state.specs.Replica.{IsWholeReplica, AreStanding, IsMergeCopy}
-use Rattle.replica_state.specs.Sources.{IsSourced}
-use Rattle.replica_state.proofs.Merging.{number_at, all_at}
+use Rattle.index_primary.specs.declared.states.Out.{Out}
+use Rattle.replica_node.specs.declared.job.PointJob.{PointJob}
+use Rattle.replica_node.specs.declared.merges.MergeCopies.{MergeCopies}
+use Rattle.replica_node.specs.declared.parts.ReplicaParts.{ReplicaParts}
+use Rattle.replica_node.specs.Merges.{copy_at, copies_with, copies_without}
+use Rattle.replica_node.specs.Replica.{IsWholeReplica, AreStanding, IsMergeCopy}
+use Rattle.replica_node.specs.Sources.{IsSourced}
+use Rattle.replica_node.proofs.Merging.{number_at, all_at}
 use Rattle.history_rules.specs.Nodes.{Past, IsNode, version_of}
 use Rattle.history_rules.specs.Points.{IsDrawnFile}
 use Rattle.history_rules.specs.Rules.{MayHaveName}
@@ -37,7 +37,7 @@ use Rattle.cluster_nodes.specs.Outs.{want_of, jobs_like}
 use Rattle.cluster_nodes.specs.JobPlaces.{MovesOne}
 use Rattle.cluster_nodes.proofs.OutCounts.{jobs_same}
 use Rattle.node_merges.specs.MergeChanges.{TakesMerged, SettlesMerged}
-use Rattle.replica_copies.specs.Settling.{SettlesCopy}
+use Rattle.replica_node.specs.Settling.{SettlesCopy}
 use Rattle.cluster_state.specs.State.{IsPointAt, HoldsTickets, PlaceShows, Shows}
 use Rattle.cluster_state.specs.Files.{JobShows, ReplicaFiles, NodeFiles, FilesShow}
 use Rattle.cluster_state.specs.Disks.{IsPastPoint}

@@ -17,17 +17,17 @@ use Rattle.seg_merge.specs.Merging.{IsMergedOf}
 use Rattle.searcher_switch.specs.declared.open.Open.{Open}
 use Rattle.searcher_switch.specs.declared.open.SearchPoint.{SearchPoint}
 use Rattle.searcher_switch.specs.Searching.{searcher_names}
-use Rattle.primary_state.specs.declared.parts.PrimaryParts.{PrimaryParts}
-use Rattle.primary_state.specs.declared.parts.Publish.{Publish}
-use Rattle.primary_state.specs.declared.states.Merging.{Merging}
-use Rattle.primary_state.specs.declared.states.Out.{Out}
-use Rattle.primary_state.specs.Merges.{merge_of, merge_names, merges_with}
-use Rattle.primary_state.specs.States.{out_of, state_names}
-use Rattle.primary_state.specs.Written.{names_of}
-use Rattle.primary_state.specs.Primary.{IsPrimary, primary_names, rest_names}
-use Rattle.primary_state.proofs.MergeLists.{names_with}
-use Rattle.primary_merges.proofs.MergedFiles.{part_among, merged_names}
-use Rattle.replica_state.specs.Sources.{HeldReadAs}
+use Rattle.index_primary.specs.declared.parts.PrimaryParts.{PrimaryParts}
+use Rattle.index_primary.specs.declared.parts.Publish.{Publish}
+use Rattle.index_primary.specs.declared.states.Merging.{Merging}
+use Rattle.index_primary.specs.declared.states.Out.{Out}
+use Rattle.index_primary.specs.Merges.{merge_of, merge_names, merges_with}
+use Rattle.index_primary.specs.States.{out_of, state_names}
+use Rattle.index_primary.specs.Written.{names_of}
+use Rattle.index_primary.specs.Primary.{IsPrimary, primary_names, rest_names}
+use Rattle.index_primary.proofs.MergeLists.{names_with}
+use Rattle.index_primary.proofs.MergedFiles.{part_among, merged_names}
+use Rattle.replica_node.specs.Sources.{HeldReadAs}
 use Rattle.history_rules.specs.Nodes.{Past, IsNode, version_of}
 use Rattle.history_rules.specs.Lines.{publish_in_flight}
 use Rattle.history_book.specs.Log.{Log, printed}

@@ -17,18 +17,18 @@ use Rattle.copy_state.specs.States.{meta_names, IsCopyState}
 use Rattle.seg_merge.specs.declared.task.MergeTask.{MergeTask}
 use Rattle.seg_merge.specs.declared.task.Merged.{Merged}
 use Rattle.seg_merge.specs.Merging.{IsMergedOf}
-use Rattle.primary_state.specs.declared.parts.PrimaryParts.{PrimaryParts}
-use Rattle.primary_state.specs.declared.states.Merging.{Merging}
-use Rattle.primary_state.specs.declared.states.Out.{Out}
-use Rattle.primary_state.specs.Merges.{merge_of, merge_loose}
-use Rattle.primary_state.specs.Written.{names_of}
-use Rattle.primary_state.specs.Primary.{publish_loose, loose_of}
-use Rattle.primary_state.proofs.MergeLists.{loose_with}
-use Rattle.primary_merges.specs.MergeCalls.{IsMadeFor}
-use Rattle.primary_merges.proofs.MergedFiles.{merged_names}
-use Rattle.replica_state.specs.declared.parts.ReplicaParts.{ReplicaParts}
-use Rattle.replica_state.specs.Merges.{SharesNone}
-use Rattle.replica_state.specs.Sources.{HeldReadAs}
+use Rattle.index_primary.specs.declared.parts.PrimaryParts.{PrimaryParts}
+use Rattle.index_primary.specs.declared.states.Merging.{Merging}
+use Rattle.index_primary.specs.declared.states.Out.{Out}
+use Rattle.index_primary.specs.Merges.{merge_of, merge_loose}
+use Rattle.index_primary.specs.Written.{names_of}
+use Rattle.index_primary.specs.Primary.{publish_loose, loose_of}
+use Rattle.index_primary.proofs.MergeLists.{loose_with}
+use Rattle.index_primary.specs.MergeCalls.{IsMadeFor}
+use Rattle.index_primary.proofs.MergedFiles.{merged_names}
+use Rattle.replica_node.specs.declared.parts.ReplicaParts.{ReplicaParts}
+use Rattle.replica_node.specs.Merges.{SharesNone}
+use Rattle.replica_node.specs.Sources.{HeldReadAs}
 use Rattle.history_rules.specs.Nodes.{IsNode, IsReplica, is_at, primary_of, generation_of}
 use Rattle.history_book.specs.Log.{Log, printed, kept}
 use Rattle.history_book.specs.Jobs.{job_at}

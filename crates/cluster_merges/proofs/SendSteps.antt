@@ -15,12 +15,12 @@ use Rattle.segment_infos.specs.declared.infos.Infos.{Infos}
 use Rattle.seg_reader.specs.Shown.{Shown}
 use Rattle.searcher_switch.specs.declared.open.Open.{Open}
 use Rattle.searcher_switch.specs.declared.open.SearchPoint.{SearchPoint}
-use Rattle.primary_state.specs.declared.states.Out.{Out}
-use Rattle.replica_state.specs.declared.job.PointJob.{PointJob}
-use Rattle.replica_state.specs.declared.parts.ReplicaParts.{ReplicaParts}
-use Rattle.replica_state.specs.declared.merges.MergeCopies.{MergeCopies}
-use Rattle.replica_state.specs.Merges.{copy_at, copies_seen, no_copies}
-use Rattle.replica_state.specs.Jobs.{merge_job_on}
+use Rattle.index_primary.specs.declared.states.Out.{Out}
+use Rattle.replica_node.specs.declared.job.PointJob.{PointJob}
+use Rattle.replica_node.specs.declared.parts.ReplicaParts.{ReplicaParts}
+use Rattle.replica_node.specs.declared.merges.MergeCopies.{MergeCopies}
+use Rattle.replica_node.specs.Merges.{copy_at, copies_seen, no_copies}
+use Rattle.replica_node.specs.Jobs.{merge_job_on}
 use Rattle.history_rules.specs.Nodes.{IsNode, generation_of, version_of}
 use Rattle.history_book.specs.Log.{Log, printed, kept}
 use Rattle.history_book.specs.Jobs.{job_at}

@@ -9,10 +9,10 @@ use Rattle.seg_merge.specs.declared.task.Merged.{Merged}
 use Rattle.copy_state.specs.declared.state.CopyState.{CopyState}
 use Rattle.copy_state.specs.States.{meta_names, IsCopyState}
 use Rattle.copy_job.specs.Jobs.{Job}
-use Rattle.primary_state.specs.declared.states.Merging.{Merging}
-use Rattle.primary_state.specs.declared.states.Out.{Out}
-use Rattle.primary_state.specs.Merges.{merge_of, merges_with, merges_without}
-use Rattle.primary_state.specs.States.{IsMetaIn}
+use Rattle.index_primary.specs.declared.states.Merging.{Merging}
+use Rattle.index_primary.specs.declared.states.Out.{Out}
+use Rattle.index_primary.specs.Merges.{merge_of, merges_with, merges_without}
+use Rattle.index_primary.specs.States.{IsMetaIn}
 use Rattle.history_tables.proofs.RowLemmas.{by_test}
 use Rattle.history_book.specs.Log.{Log}
 use Rattle.merge_tasks.specs.declared.tasks.OpenMerge.{OpenMerge}

@@ -27,14 +27,14 @@ use Rattle.history_book.specs.declared.inner.Inner.TheVariants.{MergeOut}
 use Rattle.history_book.specs.Laws.{IsFresh}
 use Rattle.history_book.specs.Turns.{AreInTurn}
 use Rattle.merge_tasks.specs.Merging.{Sheet, next_name}
-use Rattle.primary_state.specs.declared.parts.PrimaryParts.{PrimaryParts}
-use Rattle.primary_state.specs.declared.parts.PublishFault.{PublishFault}
-use Rattle.primary_state.specs.declared.parts.PublishFault.TheVariants.{NamesSpent as Spent, TooManySegments}
-use Rattle.primary_state.specs.Cut.{infos_drawn}
-use Rattle.primary_state.specs.Held.{drawn_to}
-use Rattle.primary_state.specs.Merges.{merge_inputs}
-use Rattle.primary_state.specs.Primary.{loose_of}
-use Rattle.primary_merges.specs.StartCalls.{IsFitTask, merge_sizes, StartsMerge, AnswersMerge}
+use Rattle.index_primary.specs.declared.parts.PrimaryParts.{PrimaryParts}
+use Rattle.index_primary.specs.declared.parts.PublishFault.{PublishFault}
+use Rattle.index_primary.specs.declared.parts.PublishFault.TheVariants.{NamesSpent as Spent, TooManySegments}
+use Rattle.index_primary.specs.Cut.{infos_drawn}
+use Rattle.index_primary.specs.Held.{drawn_to}
+use Rattle.index_primary.specs.Merges.{merge_inputs}
+use Rattle.index_primary.specs.Primary.{loose_of}
+use Rattle.index_primary.specs.StartCalls.{IsFitTask, merge_sizes, StartsMerge, AnswersMerge}
 use Rattle.merge_tasks.specs.TaskLog.{merge_task}
 use Rattle.merge_tasks.specs.Board.{Board, posted_merge}
 use Rattle.cluster_nodes.specs.declared.nodes.Node.TheVariants.{Primary}

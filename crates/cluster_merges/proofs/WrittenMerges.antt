@@ -23,19 +23,19 @@ use Rattle.seg_build.specs.Built.{File}
 use Rattle.seg_merge.specs.declared.task.MergeTask.{MergeTask}
 use Rattle.seg_merge.specs.declared.task.Merged.{Merged}
 use Rattle.seg_merge.specs.Merging.{IsMergedOf}
-use Rattle.primary_state.specs.declared.parts.PrimaryParts.{PrimaryParts}
-use Rattle.primary_state.specs.declared.states.Merging.{Merging}
-use Rattle.primary_state.specs.declared.states.Out.{Out}
-use Rattle.primary_state.specs.Primary.{IsPrimary, primary_names, rest_names}
-use Rattle.primary_state.specs.Merges.{merge_names, merge_of, IsMade, IsMadeBy, IsMerging}
-use Rattle.primary_state.specs.States.{IsFramedFile, IsMetaIn, out_of, is_out, state_names}
-use Rattle.primary_state.specs.Written.{names_of}
-use Rattle.primary_state.proofs.MergeLists.{number_of, all_at, names_split}
-use Rattle.primary_state.proofs.Writing.{among_at}
-use Rattle.primary_merges.proofs.MergedFiles.{part_names, part_among, merged_names, merged_framed}
+use Rattle.index_primary.specs.declared.parts.PrimaryParts.{PrimaryParts}
+use Rattle.index_primary.specs.declared.states.Merging.{Merging}
+use Rattle.index_primary.specs.declared.states.Out.{Out}
+use Rattle.index_primary.specs.Primary.{IsPrimary, primary_names, rest_names}
+use Rattle.index_primary.specs.Merges.{merge_names, merge_of, IsMade, IsMadeBy, IsMerging}
+use Rattle.index_primary.specs.States.{IsFramedFile, IsMetaIn, out_of, is_out, state_names}
+use Rattle.index_primary.specs.Written.{names_of}
+use Rattle.index_primary.proofs.MergeLists.{number_of, all_at, names_split}
+use Rattle.index_primary.proofs.Writing.{among_at}
+use Rattle.index_primary.proofs.MergedFiles.{part_names, part_among, merged_names, merged_framed}
 use Rattle.replica_opening.specs.Known.{IsLasting, HasMeta}
-use Rattle.replica_state.specs.Sources.{HeldReadAs}
-use Rattle.replica_state.proofs.Metas.{some_meta, meta_some}
+use Rattle.replica_node.specs.Sources.{HeldReadAs}
+use Rattle.replica_node.proofs.Metas.{some_meta, meta_some}
 use Rattle.history_rules.specs.Nodes.{Past}
 use Rattle.history_rules.specs.Points.{IsDrawnFile}
 use Rattle.history_book.specs.Log.{Log}

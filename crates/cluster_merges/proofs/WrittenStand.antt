@@ -12,11 +12,11 @@ use Rattle.copy_state.specs.States.{meta_names, IsCopyState}
 use Rattle.copy_job.specs.Jobs.{Job}
 use Rattle.seg_build.specs.Built.{File}
 use Rattle.seg_merge.specs.declared.task.Merged.{Merged}
-use Rattle.primary_state.specs.declared.parts.PrimaryParts.{PrimaryParts}
-use Rattle.primary_state.specs.declared.states.Merging.{Merging}
-use Rattle.primary_state.specs.Merges.{merge_of}
-use Rattle.primary_state.specs.States.{out_of, IsMetaIn}
-use Rattle.primary_state.specs.Written.{names_of}
+use Rattle.index_primary.specs.declared.parts.PrimaryParts.{PrimaryParts}
+use Rattle.index_primary.specs.declared.states.Merging.{Merging}
+use Rattle.index_primary.specs.Merges.{merge_of}
+use Rattle.index_primary.specs.States.{out_of, IsMetaIn}
+use Rattle.index_primary.specs.Written.{names_of}
 use Rattle.history_rules.specs.Nodes.{IsNode, is_at, primary_of}
 use Rattle.nrt_base.specs.declared.numbers.NodeNo.{NodeNo}
 use Rattle.history_tables.proofs.RowLemmas.{by_test}

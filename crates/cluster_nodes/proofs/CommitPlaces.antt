@@ -14,11 +14,11 @@ use Rattle.searcher_switch.specs.Appearing.{NoneAppears, AppearsOnly, IsNameInFl
 use Rattle.searcher_switch.proofs.Appearing.{only_none}
 use Rattle.searcher_switch.specs.Tickets.{ticket_names}
 use Rattle.searcher_switch.specs.Searching.{searcher_names}
-use Rattle.primary_state.specs.declared.parts.PrimaryParts.{PrimaryParts}
-use Rattle.primary_state.specs.Primary.{IsPrimary, KeepsHeldBytes, primary_names, rest_names}
-use Rattle.replica_state.specs.declared.parts.ReplicaParts.{ReplicaParts}
-use Rattle.replica_state.specs.Replica.{IsWholeReplica, AreStanding}
-use Rattle.replica_state.specs.Sources.{KeepsSource}
+use Rattle.index_primary.specs.declared.parts.PrimaryParts.{PrimaryParts}
+use Rattle.index_primary.specs.Primary.{IsPrimary, KeepsHeldBytes, primary_names, rest_names}
+use Rattle.replica_node.specs.declared.parts.ReplicaParts.{ReplicaParts}
+use Rattle.replica_node.specs.Replica.{IsWholeReplica, AreStanding}
+use Rattle.replica_node.specs.Sources.{KeepsSource}
 use Rattle.cluster_nodes.specs.declared.nodes.Node.{Node}
 use Rattle.cluster_nodes.specs.declared.nodes.Node.TheVariants.{Primary, Replica, Down}
 use Rattle.cluster_nodes.specs.declared.nodes.NodePlace.{NodePlace}

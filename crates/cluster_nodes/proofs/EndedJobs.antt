@@ -8,9 +8,9 @@ use Rattle.nrt_base.specs.declared.numbers.NodeNo.{NodeNo}
 use Rattle.disk_model.specs.Disk.{Cells}
 use Rattle.history_rules.specs.Nodes.{is_at}
 use Rattle.copy_state.specs.declared.state.CopyState.{CopyState}
-use Rattle.primary_state.specs.declared.parts.PrimaryParts.{PrimaryParts}
-use Rattle.primary_state.specs.declared.states.Out.{Out}
-use Rattle.primary_state.specs.States.{is_out, out_of, states_without}
+use Rattle.index_primary.specs.declared.parts.PrimaryParts.{PrimaryParts}
+use Rattle.index_primary.specs.declared.states.Out.{Out}
+use Rattle.index_primary.specs.States.{is_out, out_of, states_without}
 use Rattle.cluster_nodes.specs.declared.held.HeldTicket.{HeldTicket}
 use Rattle.cluster_nodes.specs.declared.nodes.Node.{Node}
 use Rattle.cluster_nodes.specs.declared.nodes.Node.TheVariants.{Primary, Replica, Down}

@@ -9,9 +9,9 @@ use Rattle.file_deleter.proofs.NameLemmas.{same_self, times-cons, among_times}
 use Rattle.copy_state.specs.declared.meta.FileMetaData.{FileMetaData}
 use Rattle.copy_state.specs.States.{meta_names, meta_in}
 use Rattle.copy_job.specs.Jobs.{Job, IsJob}
-use Rattle.replica_state.specs.declared.job.PointJob.{PointJob}
-use Rattle.replica_state.specs.Jobs.{running_point}
-use Rattle.replica_state.proofs.Metas.{some_meta}
+use Rattle.replica_node.specs.declared.job.PointJob.{PointJob}
+use Rattle.replica_node.specs.Jobs.{running_point}
+use Rattle.replica_node.proofs.Metas.{some_meta}
 use Rattle.replica_node.proofs.Lent.{RunsHere}
 use Rattle.cluster_nodes.specs.JobChanges.{IsNextFile, IsNextToFetch}
 

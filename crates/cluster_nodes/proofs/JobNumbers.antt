@@ -8,14 +8,14 @@ use Rattle.disk_model.specs.Disk.{Name, Cells}
 use Rattle.searcher_switch.specs.Appearing.{NoneAppears}
 use Rattle.copy_state.specs.declared.state.CopyState.{CopyState}
 use Rattle.copy_job.specs.Jobs.{Job, with_part}
-use Rattle.primary_state.specs.declared.parts.PrimaryParts.{PrimaryParts}
-use Rattle.primary_state.specs.declared.states.Out.{Out}
-use Rattle.primary_state.specs.States.{out_of, is_out, states_without}
-use Rattle.replica_state.specs.declared.job.PointJob.{PointJob}
-use Rattle.replica_state.specs.declared.parts.ReplicaParts.{ReplicaParts}
-use Rattle.replica_state.specs.Jobs.{running_point, stopped_job}
-use Rattle.replica_state.specs.Replica.{IsWholeReplica, AreStanding}
-use Rattle.replica_state.specs.Sources.{KeepsSource}
+use Rattle.index_primary.specs.declared.parts.PrimaryParts.{PrimaryParts}
+use Rattle.index_primary.specs.declared.states.Out.{Out}
+use Rattle.index_primary.specs.States.{out_of, is_out, states_without}
+use Rattle.replica_node.specs.declared.job.PointJob.{PointJob}
+use Rattle.replica_node.specs.declared.parts.ReplicaParts.{ReplicaParts}
+use Rattle.replica_node.specs.Jobs.{running_point, stopped_job}
+use Rattle.replica_node.specs.Replica.{IsWholeReplica, AreStanding}
+use Rattle.replica_node.specs.Sources.{KeepsSource}
 use Rattle.replica_node.specs.Running.{is_job_number, running_job, with_job, without_job}
 use Rattle.cluster_nodes.specs.JobChanges.{AltersStates}
 use Rattle.cluster_nodes.specs.Ends.{StopsJob, TakesBack}

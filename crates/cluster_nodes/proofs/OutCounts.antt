@@ -8,9 +8,9 @@ use Rattle.disk_model.specs.Disk.{Name, same}
 use Rattle.disk_model.proofs.CellLemmas.{same_true}
 use Rattle.file_deleter.specs.Holdings.{times}
 use Rattle.file_deleter.proofs.NameLemmas.{times-append}
-use Rattle.primary_state.specs.declared.states.Out.{Out}
-use Rattle.primary_state.specs.States.{same_out, is_out, states_without, state_names}
-use Rattle.primary_state.proofs.StateLemmas.{same_out_self}
+use Rattle.index_primary.specs.declared.states.Out.{Out}
+use Rattle.index_primary.specs.States.{same_out, is_out, states_without, state_names}
+use Rattle.index_primary.proofs.StateLemmas.{same_out_self}
 use Rattle.cluster_nodes.specs.declared.nodes.NodePlace.{NodePlace}
 use Rattle.cluster_nodes.specs.Places.{place_of}
 use Rattle.cluster_nodes.specs.Outs.{one_like, states_like, want_at, jobs_like}

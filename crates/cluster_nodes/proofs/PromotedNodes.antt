@@ -27,17 +27,17 @@ use Rattle.nrt_base.specs.declared.doc.Doc.{Doc}
 use Rattle.promotion.specs.declared.fault.PromoteFault.{PromoteFault}
 use Rattle.promotion.specs.declared.fault.PromoteFault.TheVariants.{Memory, GenNotNewer, ForceHigh}
 use Rattle.promotion.specs.Generations.{promoted_infos, IsNotNewer, IsForceHigh}
-use Rattle.primary_state.specs.declared.parts.PrimaryParts.{PrimaryParts}
-use Rattle.primary_state.specs.declared.states.Out.{Out}
-use Rattle.primary_state.specs.declared.states.Merging.{Merging}
-use Rattle.primary_state.specs.States.{state_names}
-use Rattle.primary_state.specs.Merges.{merge_names}
-use Rattle.primary_state.specs.Primary.{IsPrimary, primary_names, rest_names}
-use Rattle.primary_state.specs.Held.{IsHeld, IsUndrawn, AreUndrawn, AreNumbered}
-use Rattle.primary_state.specs.Calls.{IsOpenedOn}
-use Rattle.replica_state.specs.declared.parts.ReplicaParts.{ReplicaParts}
-use Rattle.replica_state.specs.declared.taking.NodeParts.{NodeParts}
-use Rattle.replica_state.specs.Sources.{HeldReadAs, IsSourced, IsTakenApart}
+use Rattle.index_primary.specs.declared.parts.PrimaryParts.{PrimaryParts}
+use Rattle.index_primary.specs.declared.states.Out.{Out}
+use Rattle.index_primary.specs.declared.states.Merging.{Merging}
+use Rattle.index_primary.specs.States.{state_names}
+use Rattle.index_primary.specs.Merges.{merge_names}
+use Rattle.index_primary.specs.Primary.{IsPrimary, primary_names, rest_names}
+use Rattle.index_primary.specs.Held.{IsHeld, IsUndrawn, AreUndrawn, AreNumbered}
+use Rattle.index_primary.specs.Calls.{IsOpenedOn}
+use Rattle.replica_node.specs.declared.parts.ReplicaParts.{ReplicaParts}
+use Rattle.replica_node.specs.declared.taking.NodeParts.{NodeParts}
+use Rattle.replica_node.specs.Sources.{HeldReadAs, IsSourced, IsTakenApart}
 use Rattle.replica_opening.specs.Known.{IsLasting}
 use Rattle.cluster_nodes.specs.Promoting.{CanPromote, PromotesTo}
 

@@ -4,11 +4,11 @@ use Rattle.std.specs.Prelude.{IfSome, if◌then◌else◌}
 use Rattle.std.proofs.lemmas.Option.{none-some}
 use Rattle.copy_state.specs.declared.state.CopyState.{CopyState}
 use Rattle.copy_job.specs.Jobs.{Job}
-use Rattle.primary_state.specs.declared.parts.PrimaryParts.{PrimaryParts}
-use Rattle.primary_state.specs.declared.states.Out.{Out}
-use Rattle.primary_state.specs.States.{out_of, is_out}
-use Rattle.replica_state.specs.declared.job.PointJob.{PointJob}
-use Rattle.replica_state.specs.Jobs.{running_point}
+use Rattle.index_primary.specs.declared.parts.PrimaryParts.{PrimaryParts}
+use Rattle.index_primary.specs.declared.states.Out.{Out}
+use Rattle.index_primary.specs.States.{out_of, is_out}
+use Rattle.replica_node.specs.declared.job.PointJob.{PointJob}
+use Rattle.replica_node.specs.Jobs.{running_point}
 use Rattle.replica_node.proofs.Lent.{RunsHere}
 use Rattle.cluster_nodes.specs.Outs.{want_of}
 

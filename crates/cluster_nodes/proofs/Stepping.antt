@@ -8,14 +8,15 @@ use Rattle.file_deleter.specs.Holdings.{Holdings, count_of, times}
 use Rattle.file_deleter.proofs.NameLemmas.{same_self, not_among_times}
 use Rattle.file_names.specs.Names.{temp_name_of}
 use Rattle.searcher_switch.specs.Appearing.{NoneAppears, AppearsOnly}
-use Rattle.replica_state.specs.declared.job.PointJob.{PointJob}
-use Rattle.replica_state.specs.declared.merges.MergeCopies.{MergeCopies}
-use Rattle.replica_state.specs.declared.parts.ReplicaParts.{ReplicaParts}
-use Rattle.replica_state.specs.Merges.{copies_seen, no_copies}
-use Rattle.replica_state.specs.Replica.{IsWholeReplica, AreStanding}
-use Rattle.replica_state.specs.Jobs.{IsPointJob, job_on, job_taking, job_seen, running_point}
-use Rattle.replica_state.specs.Sources.{IsSourced, KeepsSource, IsWantedName}
-use Rattle.replica_node.specs.Given.{copies_beside, pending_after}
+use Rattle.replica_node.specs.declared.job.PointJob.{PointJob}
+use Rattle.replica_node.specs.declared.merges.MergeCopies.{MergeCopies}
+use Rattle.replica_node.specs.declared.parts.ReplicaParts.{ReplicaParts}
+use Rattle.replica_node.specs.Merges.{copies_seen, no_copies}
+use Rattle.replica_node.specs.Replica.{IsWholeReplica, AreStanding}
+use Rattle.replica_node.specs.Jobs.{IsPointJob, job_on, job_taking, job_seen, running_point}
+use Rattle.replica_node.specs.Sources.{IsSourced, KeepsSource, IsWantedName}
+use Rattle.replica_node.specs.Overlapping.{copies_beside}
+use Rattle.replica_node.specs.Parting.{pending_after}
 use Rattle.searcher_switch.proofs.Appearing.{only_none}
 use Rattle.seg_reader.specs.Stands.{StandsFor}
 use Rattle.copy_state.specs.declared.state.CopyState.{CopyState}
@@ -23,12 +24,12 @@ use Rattle.copy_state.specs.States.{meta_names}
 use Rattle.copy_job.specs.declared.copying.Part.{Part}
 use Rattle.copy_job.specs.Jobs.{Job, reads_under, with_part}
 use Rattle.copy_job.proofs.Naming.{times-own_insert}
-use Rattle.primary_state.specs.declared.parts.PrimaryParts.{PrimaryParts}
-use Rattle.primary_state.specs.declared.states.Out.{Out}
-use Rattle.primary_state.specs.Primary.{IsPrimary, KeepsHeldBytes, loose_of, IsUnwritten}
-use Rattle.primary_state.specs.Held.{IsUndrawn}
-use Rattle.primary_state.specs.Calls.{HoldsNoNew}
-use Rattle.primary_state.specs.States.{out_of, states_without, is_out, same_out, IsStateOf}
+use Rattle.index_primary.specs.declared.parts.PrimaryParts.{PrimaryParts}
+use Rattle.index_primary.specs.declared.states.Out.{Out}
+use Rattle.index_primary.specs.Primary.{IsPrimary, KeepsHeldBytes, loose_of, IsUnwritten}
+use Rattle.index_primary.specs.Held.{IsUndrawn}
+use Rattle.index_primary.specs.Calls.{HoldsNoNew}
+use Rattle.index_primary.specs.States.{out_of, states_without, is_out, same_out, IsStateOf}
 use Rattle.cluster_nodes.specs.Outs.{want_of}
 use Rattle.cluster_nodes.specs.JobChanges.{given_back, copies_begun, AltersStates, AltersJob, BeginsAt, FinishesAt, HasTaken, TakesPart, IsTemporaryIn}
 use Rattle.cluster_nodes.specs.Ends.{TakesBack}

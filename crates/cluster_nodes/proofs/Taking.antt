@@ -4,13 +4,13 @@ use Rattle.std.specs.Prelude.{IfSome, IfOk, OnOk}
 use Rattle.std.proofs.Common.{Result, Ok, Err}
 use Rattle.std.specs.declared.alloc.AllocError.{AllocError}
 use Rattle.copy_job.specs.declared.copying.Part.{Part}
-use Rattle.primary_state.specs.Primary.{IsPrimary}
-use Rattle.primary_state.specs.Calls.{HoldsNoNew}
+use Rattle.index_primary.specs.Primary.{IsPrimary}
+use Rattle.index_primary.specs.Calls.{HoldsNoNew}
 use Rattle.cluster_nodes.proofs.Stepping.{alters_by, none_by}
 use Rattle.disk_model.specs.Disk.{Name, Cells}
-use Rattle.primary_state.specs.declared.parts.PrimaryParts.{PrimaryParts}
-use Rattle.replica_state.specs.declared.parts.ReplicaParts.{ReplicaParts}
-use Rattle.replica_state.specs.Jobs.{running_point}
+use Rattle.index_primary.specs.declared.parts.PrimaryParts.{PrimaryParts}
+use Rattle.replica_node.specs.declared.parts.ReplicaParts.{ReplicaParts}
+use Rattle.replica_node.specs.Jobs.{running_point}
 use Rattle.cluster_nodes.specs.declared.held.HeldTicket.{HeldTicket}
 use Rattle.cluster_nodes.specs.declared.nodes.Node.TheVariants.{Primary, Replica}
 use Rattle.cluster_nodes.specs.declared.nodes.NodePlace.{NodePlace}

@@ -2,13 +2,13 @@
 use Rattle.std.proofs.Common.{◌≡◌, ◌∙◌, ℕ, List, refl, ap, sym, subst}
 use Rattle.disk_model.specs.Disk.{Cells}
 use Rattle.searcher_switch.specs.Appearing.{NoneAppears}
-use Rattle.replica_state.specs.declared.parts.ReplicaParts.{ReplicaParts}
-use Rattle.replica_state.specs.Sources.{KeepsSource}
+use Rattle.replica_node.specs.declared.parts.ReplicaParts.{ReplicaParts}
+use Rattle.replica_node.specs.Sources.{KeepsSource}
 use Rattle.segment_infos.specs.declared.infos.Infos.{Infos}
-use Rattle.primary_state.specs.declared.parts.PrimaryParts.{PrimaryParts}
-use Rattle.primary_state.specs.Held.{IsUndrawn}
-use Rattle.primary_state.specs.Primary.{KeepsHeldBytes, loose_of, filled_of}
-use Rattle.primary_state.specs.Calls.{HoldsNoNew}
+use Rattle.index_primary.specs.declared.parts.PrimaryParts.{PrimaryParts}
+use Rattle.index_primary.specs.Held.{IsUndrawn}
+use Rattle.index_primary.specs.Primary.{KeepsHeldBytes, loose_of, filled_of}
+use Rattle.index_primary.specs.Calls.{HoldsNoNew}
 use Rattle.seg_reader.specs.Shown.{Shown}
 use Rattle.searcher_switch.specs.declared.open.SearchPoint.{SearchPoint}
 use Rattle.cluster_nodes.specs.declared.nodes.Node.{Node}

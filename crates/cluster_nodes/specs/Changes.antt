@@ -5,8 +5,8 @@ use Rattle.seg_reader.specs.Shown.{Shown}
 use Rattle.searcher_switch.specs.declared.searchers.Lease.{Lease}
 use Rattle.searcher_switch.specs.Searching.{IsLeaseOf}
 use Rattle.searcher_switch.specs.Tickets.{ticket_at, tickets_without}
-use Rattle.primary_state.specs.Primary.{IsPrimary}
-use Rattle.replica_state.specs.Replica.{IsWholeReplica, AreStanding}
+use Rattle.index_primary.specs.Primary.{IsPrimary}
+use Rattle.replica_node.specs.Replica.{IsWholeReplica, AreStanding}
 use Rattle.cluster_nodes.specs.declared.held.HeldKey.{HeldKey}
 use Rattle.cluster_nodes.specs.declared.nodes.Node.{Node}
 use Rattle.cluster_nodes.specs.declared.nodes.Node.TheVariants.{Primary, Replica, Down}

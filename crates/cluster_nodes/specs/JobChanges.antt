@@ -6,14 +6,15 @@ use Rattle.disk_model.specs.Disk.{Name, Content, Cells, reads_of, same}
 use Rattle.file_deleter.specs.Holdings.{Holdings, count_of, times}
 use Rattle.file_names.specs.Names.{temp_name_of}
 use Rattle.searcher_switch.specs.Appearing.{NoneAppears, AppearsOnly}
-use Rattle.replica_state.specs.declared.job.PointJob.{PointJob}
-use Rattle.replica_state.specs.declared.merges.MergeCopies.{MergeCopies}
-use Rattle.replica_state.specs.declared.parts.ReplicaParts.{ReplicaParts}
-use Rattle.replica_state.specs.Jobs.{IsPointJob, running_point, job_seen}
-use Rattle.replica_state.specs.Merges.{copies_seen}
-use Rattle.replica_state.specs.Replica.{IsWholeReplica, AreStanding}
-use Rattle.replica_state.specs.Sources.{IsSourced, KeepsSource, IsWantedName}
-use Rattle.replica_node.specs.Given.{copies_beside, pending_after}
+use Rattle.replica_node.specs.declared.job.PointJob.{PointJob}
+use Rattle.replica_node.specs.declared.merges.MergeCopies.{MergeCopies}
+use Rattle.replica_node.specs.declared.parts.ReplicaParts.{ReplicaParts}
+use Rattle.replica_node.specs.Jobs.{IsPointJob, running_point, job_seen}
+use Rattle.replica_node.specs.Merges.{copies_seen}
+use Rattle.replica_node.specs.Replica.{IsWholeReplica, AreStanding}
+use Rattle.replica_node.specs.Sources.{IsSourced, KeepsSource, IsWantedName}
+use Rattle.replica_node.specs.Overlapping.{copies_beside}
+use Rattle.replica_node.specs.Parting.{pending_after}
 use Rattle.seg_reader.specs.Stands.{StandsFor}
 use Rattle.segment_infos.specs.Infos.{IsInfosFile}
 use Rattle.copy_state.specs.declared.state.CopyState.{CopyState}
@@ -22,10 +23,10 @@ use Rattle.copy_state.specs.States.{meta_names, meta_in}
 use Rattle.copy_job.specs.declared.copying.Part.{Part}
 use Rattle.copy_job.specs.Parts.{own_names}
 use Rattle.copy_job.specs.Jobs.{Job, reads_under}
-use Rattle.primary_state.specs.declared.parts.PrimaryParts.{PrimaryParts}
-use Rattle.primary_state.specs.declared.states.Out.{Out}
-use Rattle.primary_state.specs.Primary.{IsPrimary}
-use Rattle.primary_state.specs.States.{out_of, states_without, IsMetaIn}
+use Rattle.index_primary.specs.declared.parts.PrimaryParts.{PrimaryParts}
+use Rattle.index_primary.specs.declared.states.Out.{Out}
+use Rattle.index_primary.specs.Primary.{IsPrimary}
+use Rattle.index_primary.specs.States.{out_of, states_without, IsMetaIn}
 use Rattle.cluster_nodes.specs.declared.nodes.NodePlace.{NodePlace}
 use Rattle.cluster_nodes.specs.declared.nodes.Node.TheVariants.{Primary, Replica, Down}
 use Rattle.cluster_nodes.specs.Outs.{want_of}

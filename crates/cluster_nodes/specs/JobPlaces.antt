@@ -4,18 +4,18 @@ use Rattle.std.specs.Global.{Global}
 use Rattle.disk_model.specs.Disk.{Name, Cells, reads_of}
 use Rattle.file_deleter.specs.Holdings.{times}
 use Rattle.searcher_switch.specs.Standing.{StandsForSome}
-use Rattle.replica_state.specs.declared.parts.ReplicaParts.{ReplicaParts}
+use Rattle.replica_node.specs.declared.parts.ReplicaParts.{ReplicaParts}
 use Rattle.copy_state.specs.declared.meta.FileMetaData.{FileMetaData}
 use Rattle.copy_state.specs.States.{meta_in}
 use Rattle.copy_job.specs.declared.copying.Part.{Part}
 use Rattle.copy_job.specs.Jobs.{reads_under}
-use Rattle.primary_state.specs.declared.parts.PrimaryParts.{PrimaryParts}
-use Rattle.primary_state.specs.States.{state_names, is_out}
+use Rattle.index_primary.specs.declared.parts.PrimaryParts.{PrimaryParts}
+use Rattle.index_primary.specs.States.{state_names, is_out}
 use Rattle.cluster_nodes.specs.declared.held.HeldTicket.{HeldTicket}
 use Rattle.cluster_nodes.specs.declared.nodes.Node.TheVariants.{Primary, Replica}
 use Rattle.cluster_nodes.specs.declared.nodes.NodePlace.{NodePlace}
 use Rattle.cluster_nodes.specs.Places.{place_of, IsSlot, HasPrimary}
-use Rattle.replica_state.specs.Jobs.{running_point}
+use Rattle.replica_node.specs.Jobs.{running_point}
 use Rattle.cluster_nodes.specs.Outs.{want_of}
 use Rattle.cluster_nodes.specs.JobChanges.{HasReplica, AltersStates, BeginsAt, FinishesAt, TakesPart}
 

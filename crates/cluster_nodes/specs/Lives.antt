@@ -10,10 +10,10 @@ use Rattle.segment_infos.specs.Files.{files_of_segment}
 use Rattle.seg_reader.specs.Stands.{StandsFor}
 use Rattle.replica_opening.specs.Opening.{FindsPoint, number_of_last}
 use Rattle.replica_opening.specs.Opened.{IsHandedBack}
-use Rattle.replica_state.specs.declared.parts.ReplicaParts.{ReplicaParts}
-use Rattle.replica_state.specs.Replica.{IsWholeReplica}
-use Rattle.replica_state.specs.Sources.{IsSourced}
-use Rattle.replica_state.specs.Starting.{IsJustOpened, SearchesJust, HasJustItsFiles}
+use Rattle.replica_node.specs.declared.parts.ReplicaParts.{ReplicaParts}
+use Rattle.replica_node.specs.Replica.{IsWholeReplica}
+use Rattle.replica_node.specs.Sources.{IsSourced}
+use Rattle.replica_node.specs.Starting.{IsJustOpened, SearchesJust, HasJustItsFiles}
 use Rattle.cluster_nodes.specs.declared.held.HeldTicket.{HeldTicket}
 use Rattle.cluster_nodes.specs.declared.nodes.Node.TheVariants.{Replica, Down}
 use Rattle.cluster_nodes.specs.declared.nodes.NodePlace.{NodePlace}

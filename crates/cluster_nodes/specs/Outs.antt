@@ -1,8 +1,8 @@
 -- The copy states that running jobs were begun with, each of which is out at the primary.
 use Rattle.std.specs.Prelude.{ℕ, zero, suc, ◌+◌, List, [], ◌∷◌, Option, Some, None, if◌then◌else◌}
-use Rattle.primary_state.specs.declared.states.Out.{Out}
-use Rattle.primary_state.specs.States.{out_of, same_out}
-use Rattle.replica_state.specs.declared.job.PointJob.{PointJob}
+use Rattle.index_primary.specs.declared.states.Out.{Out}
+use Rattle.index_primary.specs.States.{out_of, same_out}
+use Rattle.replica_node.specs.declared.job.PointJob.{PointJob}
 use Rattle.cluster_nodes.specs.declared.nodes.Node.TheVariants.{Primary, Replica, Down}
 use Rattle.cluster_nodes.specs.declared.nodes.NodePlace.{NodePlace}
 use Rattle.cluster_nodes.specs.Places.{place_of}

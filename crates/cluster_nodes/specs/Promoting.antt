@@ -5,12 +5,12 @@ use Rattle.nrt_base.specs.declared.numbers.Gen.{Gen}
 use Rattle.nrt_base.specs.declared.numbers.Version.{Version}
 use Rattle.disk_model.specs.Disk.{Name, Content, Cells}
 use Rattle.searcher_switch.specs.Appearing.{NoneAppears}
-use Rattle.primary_state.specs.declared.parts.PrimaryParts.{PrimaryParts}
-use Rattle.primary_state.specs.Primary.{IsPrimary}
-use Rattle.primary_state.specs.Held.{AreUndrawn, AreNumbered}
-use Rattle.replica_state.specs.declared.parts.ReplicaParts.{ReplicaParts}
-use Rattle.replica_state.specs.Replica.{IsWholeReplica, AreStanding}
-use Rattle.replica_state.specs.Sources.{HeldReadAs, IsSourced}
+use Rattle.index_primary.specs.declared.parts.PrimaryParts.{PrimaryParts}
+use Rattle.index_primary.specs.Primary.{IsPrimary}
+use Rattle.index_primary.specs.Held.{AreUndrawn, AreNumbered}
+use Rattle.replica_node.specs.declared.parts.ReplicaParts.{ReplicaParts}
+use Rattle.replica_node.specs.Replica.{IsWholeReplica, AreStanding}
+use Rattle.replica_node.specs.Sources.{HeldReadAs, IsSourced}
 use Rattle.promotion.specs.Generations.{promoted_infos}
 use Rattle.cluster_nodes.specs.declared.held.HeldTicket.{HeldTicket}
 use Rattle.cluster_nodes.specs.declared.nodes.Node.TheVariants.{Primary, Replica}

@@ -3,7 +3,7 @@
 
 ghost use Rattle.std.specs.Prelude.{ℕ, ◌≡◌, ◌==◌, false, Some, length, IfOk, OnOk};
 ghost use Rattle.std.specs.Option.{option_map};
-ghost use Rattle.primary_state.specs.States.{out_of};
+ghost use Rattle.index_primary.specs.States.{out_of};
 ghost use Rattle.cluster_nodes.specs.Outs.{want_at};
 ghost use Rattle.cluster_nodes.specs.Places.{place_of, IsSlot};
 ghost use Rattle.cluster_nodes.specs.Ends.{StopsNodeJob, StopsPlaceJob, CanTakeBack, TakesBackIn, CanEnd, EndsWith};

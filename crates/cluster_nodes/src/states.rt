@@ -5,9 +5,9 @@ ghost use Rattle.std.specs.Option.{option_map};
 ghost use Rattle.disk_model.specs.Disk.{is_among};
 ghost use Rattle.copy_job.specs.Jobs.{IsJob};
 ghost use Rattle.copy_state.specs.States.{meta_in};
-ghost use Rattle.primary_state.specs.States.{out_of};
+ghost use Rattle.index_primary.specs.States.{out_of};
 ghost use Rattle.cluster_nodes.specs.JobChanges.{IsNextFile, IsNextToFetch};
-ghost use Rattle.replica_state.specs.Jobs.{running_point};
+ghost use Rattle.replica_node.specs.Jobs.{running_point};
 ghost use Rattle.cluster_nodes.specs.Outs.{want_of};
 
 use copy_job::CopyJob;

@@ -11,8 +11,8 @@ ghost use Rattle.cluster_nodes.specs.Changes.{KeepsNode, OpensTicket, HoldsMore,
 use crate::held::{HeldKey, HeldTicket, hold, let_go, number_held};
 use crate::nodes::{Node, NodePlace};
 use disk_model::Dir;
+use index_primary::{Lease, Ticket};
 use nrt_base::{NoMemory, NodeNo};
-use primary_state::{Lease, Ticket};
 use seg_reader::Segment;
 use std::alloc::Global;
 

@@ -21,13 +21,13 @@ use Rattle.history_book.specs.Log.{Log, printed, shown}
 use Rattle.history_book.specs.Laws.{Flying}
 use Rattle.history_book.specs.Turns.{AreInTurn}
 use Rattle.merge_tasks.specs.Merging.{Sheet}
-use Rattle.primary_state.specs.declared.parts.PrimaryParts.{PrimaryParts}
-use Rattle.primary_state.specs.declared.parts.Publish.{Publish}
-use Rattle.primary_state.specs.declared.states.Out.{Out}
-use Rattle.primary_state.specs.Held.{IsOwnFile}
-use Rattle.primary_state.specs.Primary.{IsPrimary, KeepsHeldBytes, loose_of, rest_loose, publish_loose}
-use Rattle.primary_state.specs.Calls.{KeepsPoint, HasSameCounts, DrawsOnly}
-use Rattle.replica_state.specs.Given.{IsLasting}
+use Rattle.index_primary.specs.declared.parts.PrimaryParts.{PrimaryParts}
+use Rattle.index_primary.specs.declared.parts.Publish.{Publish}
+use Rattle.index_primary.specs.declared.states.Out.{Out}
+use Rattle.index_primary.specs.Held.{IsOwnFile}
+use Rattle.index_primary.specs.Primary.{IsPrimary, KeepsHeldBytes, loose_of, rest_loose, publish_loose}
+use Rattle.index_primary.specs.Calls.{KeepsPoint, HasSameCounts, DrawsOnly}
+use Rattle.replica_node.specs.Given.{IsLasting}
 use Rattle.merge_tasks.specs.Board.{Board}
 use Rattle.cluster_nodes.specs.declared.held.HeldTicket.{HeldTicket}
 use Rattle.cluster_nodes.specs.declared.nodes.Node.{Node}

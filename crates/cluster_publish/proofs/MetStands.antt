@@ -2,8 +2,8 @@
 use Rattle.std.proofs.Common.{◌≡◌, ◌+◌, ◌∷◌, ◌⊎◌, ⊎_elim, ℕ, Bool, true, false, List, [], Some, None, Option, Ok, Err, Result, refl, ap, ◌∙◌, sym, subst, length, map}
 use Rattle.std.proofs.lemmas.List.{length-map}
 use Rattle.std.specs.Prelude.{OnErr}
-use Rattle.primary_state.specs.declared.parts.PrimaryFault.{PrimaryFault}
-use Rattle.primary_state.specs.declared.parts.PrimaryFault.TheVariants.{Memory, Failed}
+use Rattle.index_primary.specs.declared.parts.PrimaryFault.{PrimaryFault}
+use Rattle.index_primary.specs.declared.parts.PrimaryFault.TheVariants.{Memory, Failed}
 use Rattle.nrt_base.specs.declared.numbers.At.{At}
 use Rattle.disk_model.specs.Disk.{Cells}
 use Rattle.disk_model.specs.Faults.{Plans}

@@ -24,11 +24,11 @@ use Rattle.merge_tasks.specs.Merging.{Sheet}
 use Rattle.history_book.specs.declared.inner.Inner.TheVariants.{FlushOut}
 use Rattle.history_book.specs.Laws.{IsFresh}
 use Rattle.history_book.specs.Turns.{AreInTurn}
-use Rattle.primary_state.specs.declared.parts.PrimaryParts.{PrimaryParts}
+use Rattle.index_primary.specs.declared.parts.PrimaryParts.{PrimaryParts}
 use Rattle.searcher_switch.specs.Appearing.{AppearsOnly}
 use Rattle.searcher_switch.specs.declared.open.Open.{Open}
-use Rattle.primary_state.specs.Primary.{IsPrimary, KeepsHeldBytes, primary_names, rest_names, loose_of, loose_in, rest_loose, publish_loose}
-use Rattle.primary_state.specs.Work.{AreOfCut}
+use Rattle.index_primary.specs.Primary.{IsPrimary, KeepsHeldBytes, primary_names, rest_names, loose_of, loose_in, rest_loose, publish_loose}
+use Rattle.index_primary.specs.Work.{AreOfCut}
 use Rattle.searcher_switch.specs.Tickets.{ticket_names}
 use Rattle.searcher_switch.specs.Searching.{searcher_names}
 use Rattle.commit_steps.specs.Book.{book_names}
@@ -37,11 +37,11 @@ use Rattle.file_deleter.proofs.NameLemmas.{times-append}
 use Rattle.segment_infos.specs.Files.{files_of_segment}
 use Rattle.cluster_state.specs.Writes.{IsFlushed}
 use Rattle.cluster_publish.proofs.Writing.{published_primary}
-use Rattle.primary_state.specs.Calls.{IsPublished, FillsUndrawn, DrawsOnly, KeepsOthers}
-use Rattle.primary_state.specs.declared.parts.Publish.{Publish}
-use Rattle.primary_state.specs.Held.{IsOwnFile, drawn_to}
-use Rattle.primary_state.specs.Cut.{infos_drawn, noted, has_put, number_drawn}
-use Rattle.primary_state.proofs.NewFiles.{named_of}
+use Rattle.index_primary.specs.Calls.{IsPublished, FillsUndrawn, DrawsOnly, KeepsOthers}
+use Rattle.index_primary.specs.declared.parts.Publish.{Publish}
+use Rattle.index_primary.specs.Held.{IsOwnFile, drawn_to}
+use Rattle.index_primary.specs.Cut.{infos_drawn, noted, has_put, number_drawn}
+use Rattle.index_primary.proofs.NewFiles.{named_of}
 use Rattle.cluster_nodes.specs.declared.held.HeldTicket.{HeldTicket}
 use Rattle.cluster_nodes.specs.declared.nodes.Node.TheVariants.{Primary}
 use Rattle.cluster_nodes.specs.declared.nodes.NodePlace.{NodePlace}

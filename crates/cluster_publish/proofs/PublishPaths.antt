@@ -25,12 +25,12 @@ use Rattle.history_book.specs.declared.inner.Inner.TheVariants.{FlushOut}
 use Rattle.history_book.specs.Laws.{IsFresh, Flying}
 use Rattle.history_book.specs.Turns.{AreInTurn}
 use Rattle.segment_infos.specs.declared.infos.Infos.{Infos}
-use Rattle.primary_state.specs.declared.parts.PrimaryParts.{PrimaryParts}
-use Rattle.primary_state.specs.Primary.{IsPrimary}
-use Rattle.primary_state.specs.Calls.{IsTaskOf, after_start, IsPublished}
-use Rattle.primary_state.specs.Work.{IsWorkOf, AreOfCut}
-use Rattle.primary_state.specs.Cut.{infos_drawn, noted, has_put, IsIdle, AreSpent, AreTooMany}
-use Rattle.primary_state.proofs.Callers.{task_seg, task_sound}
+use Rattle.index_primary.specs.declared.parts.PrimaryParts.{PrimaryParts}
+use Rattle.index_primary.specs.Primary.{IsPrimary}
+use Rattle.index_primary.specs.Calls.{IsTaskOf, after_start, IsPublished}
+use Rattle.index_primary.specs.Work.{IsWorkOf, AreOfCut}
+use Rattle.index_primary.specs.Cut.{infos_drawn, noted, has_put, IsIdle, AreSpent, AreTooMany}
+use Rattle.index_primary.proofs.Callers.{task_seg, task_sound}
 use Rattle.segment_steps.specs.declared.flushing.FlushTask.{FlushTask}
 use Rattle.segment_steps.specs.declared.flushing.FlushWork.{FlushWork}
 use Rattle.cluster_nodes.specs.declared.held.HeldTicket.{HeldTicket}

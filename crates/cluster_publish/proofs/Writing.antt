@@ -28,17 +28,17 @@ use Rattle.history_book.specs.Log.{Log, printed, shown, kept}
 use Rattle.history_book.specs.declared.inner.Inner.TheVariants.{FlushOut}
 use Rattle.history_book.specs.Turns.{AreInTurn}
 use Rattle.history_book.proofs.ReignLaws.{written}
-use Rattle.primary_state.specs.declared.parts.PrimaryParts.{PrimaryParts}
-use Rattle.primary_state.specs.declared.parts.Publish.{Publish}
-use Rattle.primary_state.specs.Primary.{IsPrimary}
+use Rattle.index_primary.specs.declared.parts.PrimaryParts.{PrimaryParts}
+use Rattle.index_primary.specs.declared.parts.Publish.{Publish}
+use Rattle.index_primary.specs.Primary.{IsPrimary}
 use Rattle.segment_steps.specs.declared.flushing.FlushWork.{FlushWork}
-use Rattle.primary_state.specs.Calls.{IsPublished}
-use Rattle.primary_state.specs.Merges.{merge_inputs}
-use Rattle.primary_state.specs.declared.states.Merging.{Merging}
+use Rattle.index_primary.specs.Calls.{IsPublished}
+use Rattle.index_primary.specs.Merges.{merge_inputs}
+use Rattle.index_primary.specs.declared.states.Merging.{Merging}
 use Rattle.history_rules.specs.Tasks.{merge_count}
 use Rattle.script_serving.specs.Refusals.{put_publishes}
-use Rattle.primary_state.specs.Work.{AreOfCut}
-use Rattle.primary_state.specs.Cut.{infos_drawn, noted, has_put, cut_by, after_cut}
+use Rattle.index_primary.specs.Work.{AreOfCut}
+use Rattle.index_primary.specs.Cut.{infos_drawn, noted, has_put, cut_by, after_cut}
 use Rattle.cluster_state.specs.Lookups.{Handed, or_older, flush_out}
 use Rattle.cluster_state.specs.State.{StandForVersion, IsPointAt, IsFlying, FlightShows, WritesAt, PrimaryShows}
 use Rattle.cluster_state.specs.Writes.{IsFlushed}

@@ -16,11 +16,11 @@ use Rattle.history_rules.specs.Legal.{KeepsRule, IsLegalPast}
 use Rattle.history_book.specs.Log.{Log, printed, shown, kept}
 use Rattle.history_book.specs.declared.inner.Inner.TheVariants.{FlushOut}
 use Rattle.history_book.specs.Turns.{AreInTurn}
-use Rattle.primary_state.specs.declared.parts.PrimaryParts.{PrimaryParts}
-use Rattle.primary_state.specs.Primary.{IsPrimary}
-use Rattle.primary_state.specs.Calls.{IsPublished}
-use Rattle.primary_state.specs.Work.{AreOfCut}
-use Rattle.primary_state.specs.Cut.{infos_drawn, noted, has_put}
+use Rattle.index_primary.specs.declared.parts.PrimaryParts.{PrimaryParts}
+use Rattle.index_primary.specs.Primary.{IsPrimary}
+use Rattle.index_primary.specs.Calls.{IsPublished}
+use Rattle.index_primary.specs.Work.{AreOfCut}
+use Rattle.index_primary.specs.Cut.{infos_drawn, noted, has_put}
 use Rattle.segment_steps.specs.declared.flushing.FlushWork.{FlushWork}
 use Rattle.cluster_nodes.specs.declared.held.HeldTicket.{HeldTicket}
 use Rattle.cluster_nodes.specs.declared.nodes.Node.TheVariants.{Primary}

@@ -23,9 +23,9 @@ use disk_model::FaultDir;
 use documents::Op;
 use history_book::Inner;
 use history_rules::{Cause, Event};
+use index_primary::PrimaryFault;
 use merge_tasks::Ledger;
 use nrt_base::{At, Gen, NoMemory, NodeNo, Share, Version};
-use primary_state::PrimaryFault;
 use std::alloc::{AllocError, Global};
 
 // The number of the next operation, where there is one.

@@ -18,14 +18,14 @@ use Rattle.commit_steps.specs.Book.{commit_of, book_by, is_last_step, IsBegun, H
 use Rattle.searcher_switch.specs.Appearing.{IsNameInFlight}
 use Rattle.searcher_switch.specs.declared.open.Open.{Open}
 use Rattle.searcher_switch.specs.declared.open.SearchPoint.{SearchPoint}
-use Rattle.primary_state.specs.declared.parts.PrimaryParts.{PrimaryParts}
-use Rattle.primary_state.specs.declared.parts.Publish.{Publish}
-use Rattle.primary_state.specs.declared.states.Out.{Out}
-use Rattle.primary_state.specs.Held.{IsUndrawn}
-use Rattle.primary_state.specs.Primary.{loose_of, filled_of}
+use Rattle.index_primary.specs.declared.parts.PrimaryParts.{PrimaryParts}
+use Rattle.index_primary.specs.declared.parts.Publish.{Publish}
+use Rattle.index_primary.specs.declared.states.Out.{Out}
+use Rattle.index_primary.specs.Held.{IsUndrawn}
+use Rattle.index_primary.specs.Primary.{loose_of, filled_of}
 use Rattle.replica_opening.specs.Known.{IsLasting}
-use Rattle.replica_state.specs.declared.job.PointJob.{PointJob}
-use Rattle.replica_state.specs.declared.parts.ReplicaParts.{ReplicaParts}
+use Rattle.replica_node.specs.declared.job.PointJob.{PointJob}
+use Rattle.replica_node.specs.declared.parts.ReplicaParts.{ReplicaParts}
 use Rattle.history_rules.specs.declared.entry.Event.{Event}
 use Rattle.history_rules.specs.declared.entry.Event.TheVariants.{Publishing, Committing, Committed}
 use Rattle.history_rules.specs.Nodes.{Past, IsNode, is_at, primary_of, is_running, version_of}

@@ -6,10 +6,10 @@ use Rattle.std.proofs.lemmas.Bool.{eqb-true}
 use Rattle.std.proofs.lemmas.Bool.Decides.{nat_tests}
 use Rattle.disk_model.specs.Disk.{Cells}
 use Rattle.copy_job.specs.Jobs.{Job}
-use Rattle.replica_state.specs.declared.parts.ReplicaParts.{ReplicaParts}
-use Rattle.replica_state.specs.declared.merges.MergeCopies.{MergeCopies}
-use Rattle.replica_state.specs.Merges.{copy_at, copies_without}
-use Rattle.replica_state.specs.Replica.{IsWholeReplica}
+use Rattle.replica_node.specs.declared.parts.ReplicaParts.{ReplicaParts}
+use Rattle.replica_node.specs.declared.merges.MergeCopies.{MergeCopies}
+use Rattle.replica_node.specs.Merges.{copy_at, copies_without}
+use Rattle.replica_node.specs.Replica.{IsWholeReplica}
 use Rattle.merge_tasks.specs.declared.tasks.OpenMerge.{OpenMerge}
 use Rattle.merge_tasks.specs.declared.tasks.Sent.{Sent}
 use Rattle.merge_tasks.specs.declared.tasks.Spread.{Spread}

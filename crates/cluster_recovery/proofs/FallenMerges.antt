@@ -10,9 +10,9 @@ use Rattle.searcher_switch.proofs.Appearing.{only_none}
 use Rattle.seg_reader.specs.Shown.{Shown}
 use Rattle.searcher_switch.specs.declared.open.Open.{Open}
 use Rattle.copy_job.specs.Jobs.{Job}
-use Rattle.primary_state.specs.declared.states.Out.{Out}
-use Rattle.replica_state.specs.declared.parts.ReplicaParts.{ReplicaParts}
-use Rattle.replica_state.specs.Merges.{copy_at}
+use Rattle.index_primary.specs.declared.states.Out.{Out}
+use Rattle.replica_node.specs.declared.parts.ReplicaParts.{ReplicaParts}
+use Rattle.replica_node.specs.Merges.{copy_at}
 use Rattle.history_rules.specs.declared.entry.Event.TheVariants.{Crashed}
 use Rattle.history_rules.specs.Nodes.{Past, IsNode, is_at, primary_of, generation_of, version_of}
 use Rattle.history_rules.specs.Rules.{MayHaveName}

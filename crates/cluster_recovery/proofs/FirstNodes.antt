@@ -34,18 +34,18 @@ use Rattle.commit_steps.specs.declared.stage.CommitBook.{CommitBook}
 use Rattle.commit_steps.specs.declared.stage.Stage.{Stage}
 use Rattle.replica_opening.specs.Opening.{opening_infos, FindsPoint, number_of_last}
 use Rattle.replica_opening.specs.Opened.{IsSettledAt, IsSettledOn}
-use Rattle.replica_state.specs.declared.parts.ReplicaParts.{ReplicaParts}
-use Rattle.replica_state.specs.declared.taking.NodeParts.{NodeParts}
-use Rattle.replica_state.specs.Replica.{IsWholeReplica}
-use Rattle.replica_state.specs.declared.merges.MergeCopies.{MergeCopies}
-use Rattle.replica_state.specs.Sources.{IsSourced, IsTakenApart}
-use Rattle.replica_state.specs.Starting.{IsJustOpened, SearchesJust}
-use Rattle.primary_state.specs.declared.parts.PrimaryParts.{PrimaryParts}
-use Rattle.primary_state.specs.Primary.{IsPrimary, loose_of, publish_loose, primary_names}
+use Rattle.replica_node.specs.declared.parts.ReplicaParts.{ReplicaParts}
+use Rattle.replica_node.specs.declared.taking.NodeParts.{NodeParts}
+use Rattle.replica_node.specs.Replica.{IsWholeReplica}
+use Rattle.replica_node.specs.declared.merges.MergeCopies.{MergeCopies}
+use Rattle.replica_node.specs.Sources.{IsSourced, IsTakenApart}
+use Rattle.replica_node.specs.Starting.{IsJustOpened, SearchesJust}
+use Rattle.index_primary.specs.declared.parts.PrimaryParts.{PrimaryParts}
+use Rattle.index_primary.specs.Primary.{IsPrimary, loose_of, publish_loose, primary_names}
 use Rattle.searcher_switch.specs.Appearing.{NoneAppears}
-use Rattle.primary_state.specs.Held.{IsHeld, AreUndrawn, AreNumbered}
-use Rattle.primary_state.specs.Calls.{IsOpenedOn}
-use Rattle.primary_state.proofs.Callers.{empty_numbered}
+use Rattle.index_primary.specs.Held.{IsHeld, AreUndrawn, AreNumbered}
+use Rattle.index_primary.specs.Calls.{IsOpenedOn}
+use Rattle.index_primary.proofs.Callers.{empty_numbered}
 use Rattle.cluster_nodes.specs.declared.held.HeldTicket.{HeldTicket}
 use Rattle.cluster_nodes.specs.declared.nodes.Node.TheVariants.{Primary, Replica, Down}
 use Rattle.cluster_nodes.specs.declared.nodes.NodePlace.{NodePlace}
@@ -56,12 +56,12 @@ use Rattle.cluster_state.specs.Starting.{IsEmptyDir, IsUncommitted, IsOpening, O
 use Rattle.cluster_state.specs.Disks.{IsPastPoint, LastShows, StageShows, DiskShows}
 use Rattle.cluster_state.specs.Files.{JobShows, PrimaryFiles, ReplicaFiles, NodeFiles, FilesShow}
 use Rattle.cluster_nodes.specs.Outs.{want_of, one_like, want_at, jobs_like}
-use Rattle.primary_state.specs.declared.states.Out.{Out}
-use Rattle.primary_state.specs.States.{state_names}
-use Rattle.primary_state.specs.Merges.{merge_names, merge_loose}
+use Rattle.index_primary.specs.declared.states.Out.{Out}
+use Rattle.index_primary.specs.States.{state_names}
+use Rattle.index_primary.specs.Merges.{merge_names, merge_loose}
 use Rattle.nrt_base.specs.declared.numbers.At.{At}
 use Rattle.nrt_base.proofs.Plain.{slice_get-push}
-use Rattle.replica_state.specs.declared.job.PointJob.{PointJob}
+use Rattle.replica_node.specs.declared.job.PointJob.{PointJob}
 use Rattle.cluster_nodes.specs.declared.nodes.Node.{Node}
 use Rattle.cluster_state.specs.State.{IsPointAt, WritesAt, HoldsTickets, PrimaryShows, PlaceShows, Shows}
 use Rattle.cluster_state.proofs.PointStands.{opening_stands, opening_writable}

@@ -19,16 +19,16 @@ use Rattle.searcher_switch.specs.declared.open.SearchPoint.{SearchPoint}
 use Rattle.searcher_switch.specs.declared.searchers.Searchers.{Searchers}
 use Rattle.commit_steps.specs.declared.stage.CommitBook.{CommitBook}
 use Rattle.searcher_switch.proofs.Appearing.{only_none}
-use Rattle.primary_state.specs.declared.parts.PrimaryParts.{PrimaryParts}
-use Rattle.primary_state.specs.declared.parts.Publish.{Publish}
-use Rattle.primary_state.specs.declared.states.Out.{Out}
-use Rattle.primary_state.specs.declared.states.Merging.{Merging}
-use Rattle.primary_state.specs.Merges.{merge_loose, merge_filled}
-use Rattle.primary_state.specs.Primary.{loose_of, publish_loose, filled_of}
-use Rattle.primary_state.specs.Held.{IsUndrawn}
-use Rattle.replica_state.specs.declared.job.PointJob.{PointJob}
-use Rattle.replica_state.specs.declared.parts.ReplicaParts.{ReplicaParts}
-use Rattle.replica_state.specs.Replica.{replica_names}
+use Rattle.index_primary.specs.declared.parts.PrimaryParts.{PrimaryParts}
+use Rattle.index_primary.specs.declared.parts.Publish.{Publish}
+use Rattle.index_primary.specs.declared.states.Out.{Out}
+use Rattle.index_primary.specs.declared.states.Merging.{Merging}
+use Rattle.index_primary.specs.Merges.{merge_loose, merge_filled}
+use Rattle.index_primary.specs.Primary.{loose_of, publish_loose, filled_of}
+use Rattle.index_primary.specs.Held.{IsUndrawn}
+use Rattle.replica_node.specs.declared.job.PointJob.{PointJob}
+use Rattle.replica_node.specs.declared.parts.ReplicaParts.{ReplicaParts}
+use Rattle.replica_node.specs.Replica.{replica_names}
 use Rattle.promotion.specs.Generations.{promoted_infos}
 use Rattle.history_rules.specs.declared.entry.Event.{Event}
 use Rattle.history_rules.specs.declared.entry.Event.TheVariants.{Copying, Crashed, Promoted, Publishing}

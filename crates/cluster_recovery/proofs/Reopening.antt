@@ -23,13 +23,13 @@ use Rattle.commit_steps.specs.Found.{ShowsNothing}
 use Rattle.commit_steps.proofs.Beside.{sound_images}
 use Rattle.searcher_switch.proofs.Standing.{stands_along}
 use Rattle.searcher_switch.specs.declared.open.Open.{Open}
-use Rattle.primary_state.specs.declared.states.Out.{Out}
+use Rattle.index_primary.specs.declared.states.Out.{Out}
 use Rattle.replica_opening.specs.Opening.{FindsPoint, number_of_last}
 use Rattle.replica_opening.specs.Opened.{IsSettledOn}
 use Rattle.replica_opening.proofs.Clearings.{one_found}
-use Rattle.replica_state.specs.declared.job.PointJob.{PointJob}
-use Rattle.replica_state.specs.declared.parts.ReplicaParts.{ReplicaParts}
-use Rattle.replica_state.specs.Starting.{SearchesJust}
+use Rattle.replica_node.specs.declared.job.PointJob.{PointJob}
+use Rattle.replica_node.specs.declared.parts.ReplicaParts.{ReplicaParts}
+use Rattle.replica_node.specs.Starting.{SearchesJust}
 use Rattle.history_rules.specs.declared.entry.Event.{Event}
 use Rattle.history_rules.specs.declared.entry.Event.TheVariants.{Copying, Crashed, Reopened, Publishing}
 use Rattle.history_rules.specs.Nodes.{Past, IsNode, is_at, primary_of, is_running, newest_version, version_of}

@@ -2,7 +2,7 @@
 
 ghost use Rattle.std.specs.Prelude.{ℕ, ◌≡◌, ◌==◌, true, false, None, length};
 ghost use Rattle.history_rules.specs.Nodes.{is_at};
-ghost use Rattle.replica_state.specs.Merges.{copy_at};
+ghost use Rattle.replica_node.specs.Merges.{copy_at};
 ghost use Rattle.cluster_nodes.specs.Places.{place_of, IsSlot};
 ghost use Rattle.merge_tasks.specs.Board.{is_sent_in};
 ghost use Rattle.cluster_recovery.specs.Falls.{LosesCopies, EndsSent, EndsSpread, EndsCopies, NodeLoses, PlaceLoses, AllLose, Falls};

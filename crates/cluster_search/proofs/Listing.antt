@@ -32,8 +32,8 @@ use Rattle.searcher_switch.specs.declared.open.SearchPoint.{SearchPoint}
 use Rattle.searcher_switch.specs.declared.searchers.Searchers.{Searchers}
 use Rattle.searcher_switch.specs.Tickets.{ticket_at, ticket_names}
 use Rattle.searcher_switch.specs.Searching.{searcher_names}
-use Rattle.primary_state.specs.Primary.{primary_names, rest_names, loose_of}
-use Rattle.replica_state.specs.Replica.{replica_names, copying_names}
+use Rattle.index_primary.specs.Primary.{primary_names, rest_names, loose_of}
+use Rattle.replica_node.specs.Replica.{replica_names, copying_names}
 use Rattle.history_rules.specs.declared.entry.Event.TheVariants.{Files}
 use Rattle.history_rules.specs.Nodes.{Past, IsNode, is_running, version_of}
 use Rattle.history_rules.specs.Points.{documents_at, has_documents}

@@ -12,7 +12,7 @@ use Rattle.history_rules.specs.Rules.{MayHaveName}
 use Rattle.history_rules.specs.Legal.{KeepsRule, IsLegalPast}
 use Rattle.disk_model.specs.Disk.{Name}
 use Rattle.file_names.specs.Names.{temp_name_of}
-use Rattle.replica_state.specs.Given.{IsLasting}
+use Rattle.replica_node.specs.Given.{IsLasting}
 use Rattle.history_tables.proofs.RowLemmas.{by_test}
 use Rattle.cluster_state.proofs.Growing.{generation_more}
 

@@ -7,14 +7,14 @@ use Rattle.std.proofs.lemmas.Bool.{eq-eqb}
 use Rattle.std.proofs.lemmas.Bool.Decides.{nat_tests}
 use Rattle.nrt_base.specs.declared.numbers.At.{At}
 use Rattle.disk_model.specs.Disk.{Name, Content, Cells}
-use Rattle.primary_state.specs.declared.parts.PrimaryParts.{PrimaryParts}
-use Rattle.primary_state.specs.declared.states.Out.{Out}
-use Rattle.primary_state.specs.States.{is_out, out_of}
-use Rattle.replica_state.specs.declared.job.PointJob.{PointJob}
-use Rattle.replica_state.specs.declared.parts.ReplicaParts.{ReplicaParts}
-use Rattle.replica_state.specs.Replica.{IsJobAbove}
-use Rattle.replica_state.specs.Jobs.{job_seen, running_point, stopped_job}
-use Rattle.replica_state.specs.Given.{HasMeta}
+use Rattle.index_primary.specs.declared.parts.PrimaryParts.{PrimaryParts}
+use Rattle.index_primary.specs.declared.states.Out.{Out}
+use Rattle.index_primary.specs.States.{is_out, out_of}
+use Rattle.replica_node.specs.declared.job.PointJob.{PointJob}
+use Rattle.replica_node.specs.declared.parts.ReplicaParts.{ReplicaParts}
+use Rattle.replica_node.specs.Replica.{IsJobAbove}
+use Rattle.replica_node.specs.Jobs.{job_seen, running_point, stopped_job}
+use Rattle.replica_node.specs.Given.{HasMeta}
 use Rattle.history_rules.specs.Nodes.{IsNode, IsReplica, is_at, primary_of, newest_version, version_of}
 use Rattle.history_rules.specs.Lines.{copy_in_flight, is_free_for}
 use Rattle.history_tables.specs.declared.jobs.Job.{Job}

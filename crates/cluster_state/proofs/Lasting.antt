@@ -12,8 +12,8 @@ use Rattle.file_deleter.specs.Holdings.{Holdings, count_of}
 use Rattle.file_deleter.proofs.Keeping.{known_counted}
 use Rattle.commit_steps.specs.declared.stage.CommitBook.{CommitBook}
 use Rattle.searcher_switch.specs.Node.{IsWholeNode}
-use Rattle.replica_state.specs.Given.{IsLasting}
-use Rattle.replica_state.specs.Sources.{HeldReadAs}
+use Rattle.replica_node.specs.Given.{IsLasting}
+use Rattle.replica_node.specs.Sources.{HeldReadAs}
 
 -- a name with another ending than `.tmp` is no temporary one
 ends_apart : (front : List ℕ) (ending : List ℕ) (name : Name) (job : ℕ) → list_all (λ b. not (nat_eq b 46)) ending ≡ true → get_or ending 0 0 ≢ 116 → front ++ 46 ∷ ending ≢ temp_name_of name job

@@ -13,7 +13,7 @@ use Rattle.segment_infos.specs.Files.{files_of_segment}
 use Rattle.segment_steps.specs.Next.{live_base}
 use Rattle.seg_reader.specs.Shown.{Shown}
 use Rattle.seg_reader.specs.Stands.{IsSegmentIn}
-use Rattle.primary_state.specs.Held.{drawn_to, IsDrawnRecord}
+use Rattle.index_primary.specs.Held.{drawn_to, IsDrawnRecord}
 
 -- a number that is drawn is one that a file can name
 pub drawn_small : (infos : Infos) (seg : ℕ) → infos.generation.0 < 2 ^ 31 → infos.counter ≤ segments_of_generation → seg < drawn_to infos → seg < 2 ^ 64

@@ -11,14 +11,14 @@ use Rattle.seg_reader.specs.Shown.{Shown}
 use Rattle.copy_state.specs.declared.state.CopyState.{CopyState}
 use Rattle.copy_state.specs.States.{meta_names}
 use Rattle.copy_job.specs.Jobs.{Job}
-use Rattle.primary_state.specs.declared.parts.PrimaryParts.{PrimaryParts}
-use Rattle.primary_state.specs.declared.states.Merging.{Merging}
-use Rattle.primary_state.specs.declared.states.Out.{Out}
-use Rattle.primary_state.specs.Merges.{merge_of}
-use Rattle.replica_state.specs.declared.merges.MergeCopies.{MergeCopies}
-use Rattle.replica_state.specs.declared.parts.ReplicaParts.{ReplicaParts}
-use Rattle.replica_state.specs.Merges.{copy_at, copies_without, CopyApart, AreCopiesApart, no_copies}
-use Rattle.replica_state.proofs.Merging.{number_at, all_at}
+use Rattle.index_primary.specs.declared.parts.PrimaryParts.{PrimaryParts}
+use Rattle.index_primary.specs.declared.states.Merging.{Merging}
+use Rattle.index_primary.specs.declared.states.Out.{Out}
+use Rattle.index_primary.specs.Merges.{merge_of}
+use Rattle.replica_node.specs.declared.merges.MergeCopies.{MergeCopies}
+use Rattle.replica_node.specs.declared.parts.ReplicaParts.{ReplicaParts}
+use Rattle.replica_node.specs.Merges.{copy_at, copies_without, CopyApart, AreCopiesApart, no_copies}
+use Rattle.replica_node.proofs.Merging.{number_at, all_at}
 use Rattle.cluster_nodes.specs.Given.{overlaps, copies_beside}
 use Rattle.history_rules.specs.declared.entry.Event.{Event}
 use Rattle.history_rules.specs.declared.entry.Event.TheVariants.{Crashed, Promoted, Published, Merging as MergingEvent, Drained}

@@ -21,18 +21,18 @@ use Rattle.searcher_switch.proofs.Appearing.{stood_or, only_none}
 use Rattle.seg_reader.specs.Shown.{Shown}
 use Rattle.searcher_switch.specs.declared.open.Open.{Open}
 use Rattle.searcher_switch.specs.Searching.{searcher_names}
-use Rattle.primary_state.specs.declared.parts.PrimaryParts.{PrimaryParts}
-use Rattle.primary_state.specs.Held.{IsOwnSegment, IsOwnFile, IsDrawnRecord}
-use Rattle.primary_state.specs.Primary.{IsPrimary, loose_of, primary_names, rest_names}
-use Rattle.primary_state.proofs.NewFiles.{named_of}
+use Rattle.index_primary.specs.declared.parts.PrimaryParts.{PrimaryParts}
+use Rattle.index_primary.specs.Held.{IsOwnSegment, IsOwnFile, IsDrawnRecord}
+use Rattle.index_primary.specs.Primary.{IsPrimary, loose_of, primary_names, rest_names}
+use Rattle.index_primary.proofs.NewFiles.{named_of}
 use Rattle.copy_state.specs.States.{meta_names}
 use Rattle.copy_job.specs.declared.copying.Part.{Part}
-use Rattle.replica_state.specs.Given.{IsLasting, HasMeta}
-use Rattle.replica_state.specs.declared.job.PointJob.{PointJob}
-use Rattle.replica_state.specs.Jobs.{running_point}
-use Rattle.replica_state.specs.Replica.{IsJobAbove}
-use Rattle.replica_state.proofs.Metas.{some_meta}
-use Rattle.replica_state.specs.declared.parts.ReplicaParts.{ReplicaParts}
+use Rattle.replica_node.specs.Given.{IsLasting, HasMeta}
+use Rattle.replica_node.specs.declared.job.PointJob.{PointJob}
+use Rattle.replica_node.specs.Jobs.{running_point}
+use Rattle.replica_node.specs.Replica.{IsJobAbove}
+use Rattle.replica_node.proofs.Metas.{some_meta}
+use Rattle.replica_node.specs.declared.parts.ReplicaParts.{ReplicaParts}
 use Rattle.history_rules.specs.Nodes.{Past, generation_of}
 use Rattle.segment_steps.specs.Next.{record_generation, live_base}
 use Rattle.history_rules.specs.Points.{is_drawn, IsDrawnFile}

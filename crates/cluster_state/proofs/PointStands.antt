@@ -9,18 +9,18 @@ use Rattle.file_deleter.proofs.NameLemmas.{times-append, among_times}
 use Rattle.commit_steps.proofs.Safe.{among_of}
 use Rattle.segment_infos.specs.declared.infos.Infos.{Infos}
 use Rattle.segment_infos.specs.declared.infos.SegRecord.{SegRecord}
-use Rattle.primary_state.proofs.Callers.{empty_numbered}
+use Rattle.index_primary.proofs.Callers.{empty_numbered}
 use Rattle.seg_reader.specs.Stands.{StandsFor, AreSegmentsOf}
 use Rattle.searcher_switch.proofs.Standing.{stands_along}
 use Rattle.copy_state.specs.declared.state.CopyState.{CopyState}
 use Rattle.copy_state.specs.declared.meta.FileMetaData.{FileMetaData}
 use Rattle.copy_state.specs.States.{meta_names}
-use Rattle.primary_state.specs.declared.parts.PrimaryParts.{PrimaryParts}
+use Rattle.index_primary.specs.declared.parts.PrimaryParts.{PrimaryParts}
 use Rattle.searcher_switch.specs.Tickets.{ticket_names}
 use Rattle.searcher_switch.specs.Searching.{searcher_names}
-use Rattle.primary_state.specs.Primary.{IsPrimary, primary_names, rest_names, loose_of}
-use Rattle.replica_state.specs.Given.{HasMeta, opening_infos}
-use Rattle.replica_state.specs.Sources.{HeldReadAs}
+use Rattle.index_primary.specs.Primary.{IsPrimary, primary_names, rest_names, loose_of}
+use Rattle.replica_node.specs.Given.{HasMeta, opening_infos}
+use Rattle.replica_node.specs.Sources.{HeldReadAs}
 use Rattle.nrt_base.specs.declared.numbers.Version.{Version}
 use Rattle.history_rules.specs.Nodes.{Past, version_of}
 use Rattle.history_rules.specs.Points.{documents_at}

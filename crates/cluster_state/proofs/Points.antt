@@ -5,7 +5,7 @@ use Rattle.nrt_base.specs.declared.numbers.At.{At}
 use Rattle.disk_model.specs.Disk.{Name, Content}
 use Rattle.segment_infos.specs.declared.infos.Infos.{Infos}
 use Rattle.seg_reader.specs.Stands.{StandsFor}
-use Rattle.primary_state.specs.Held.{AreNumbered}
+use Rattle.index_primary.specs.Held.{AreNumbered}
 use Rattle.history_rules.specs.declared.entry.Event.{Event}
 use Rattle.history_rules.specs.declared.entry.Event.TheVariants.{Published, Merging}
 use Rattle.history_rules.specs.Nodes.{Past}

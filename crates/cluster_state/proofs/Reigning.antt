@@ -15,9 +15,9 @@ use Rattle.segment_infos.specs.declared.infos.Infos.{Infos}
 use Rattle.segment_steps.specs.Next.{record_generation, live_base}
 use Rattle.commit_steps.specs.declared.stage.CommitBook.{CommitBook}
 use Rattle.searcher_switch.specs.Node.{IsWholeNode}
-use Rattle.primary_state.specs.Held.{IsUnused, IsNextLive, IsUndrawn, part, live, next_live, AreUndrawn, IsDrawnRecord, AreNumbered}
-use Rattle.replica_state.specs.Given.{IsLasting}
-use Rattle.replica_state.specs.Sources.{HeldReadAs}
+use Rattle.index_primary.specs.Held.{IsUnused, IsNextLive, IsUndrawn, part, live, next_live, AreUndrawn, IsDrawnRecord, AreNumbered}
+use Rattle.replica_node.specs.Given.{IsLasting}
+use Rattle.replica_node.specs.Sources.{HeldReadAs}
 use Rattle.history_rules.specs.Nodes.{Past, generation_of}
 use Rattle.history_rules.specs.Points.{names_drawn_in, is_drawn}
 use Rattle.history_rules.specs.Legal.{IsLegalPast}

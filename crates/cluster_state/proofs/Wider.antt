@@ -16,15 +16,15 @@ use Rattle.seg_reader.specs.Stands.{IsLiveFileIn, IsSegmentIn, StandsFor}
 use Rattle.copy_state.specs.declared.meta.FileMetaData.{FileMetaData}
 use Rattle.copy_state.specs.States.{meta_in}
 use Rattle.copy_job.specs.Jobs.{Job as CopyingJob}
-use Rattle.primary_state.specs.declared.parts.PrimaryParts.{PrimaryParts}
-use Rattle.primary_state.specs.declared.states.Out.{Out}
-use Rattle.primary_state.specs.Primary.{IsPrimary}
-use Rattle.replica_state.specs.Given.{IsLasting, HasMeta}
-use Rattle.replica_state.specs.declared.job.PointJob.{PointJob}
-use Rattle.replica_state.specs.declared.parts.ReplicaParts.{ReplicaParts}
-use Rattle.replica_state.specs.Replica.{IsWholeReplica, HasMetas, IsMergeCopy}
-use Rattle.replica_state.specs.Sources.{CopiesFrom, HeldReadAs, IsSourced}
-use Rattle.replica_state.proofs.Metas.{listed_meta, some_meta}
+use Rattle.index_primary.specs.declared.parts.PrimaryParts.{PrimaryParts}
+use Rattle.index_primary.specs.declared.states.Out.{Out}
+use Rattle.index_primary.specs.Primary.{IsPrimary}
+use Rattle.replica_node.specs.Given.{IsLasting, HasMeta}
+use Rattle.replica_node.specs.declared.job.PointJob.{PointJob}
+use Rattle.replica_node.specs.declared.parts.ReplicaParts.{ReplicaParts}
+use Rattle.replica_node.specs.Replica.{IsWholeReplica, HasMetas, IsMergeCopy}
+use Rattle.replica_node.specs.Sources.{CopiesFrom, HeldReadAs, IsSourced}
+use Rattle.replica_node.proofs.Metas.{listed_meta, some_meta}
 use Rattle.history_rules.specs.Nodes.{Past}
 use Rattle.history_rules.specs.Points.{documents_at}
 use Rattle.history_tables.specs.declared.jobs.Job.{Job}

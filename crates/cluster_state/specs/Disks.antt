@@ -9,12 +9,12 @@ use Rattle.segment_infos.specs.declared.infos.Infos.{Infos}
 use Rattle.segment_infos.specs.Files.{files_of_segment}
 use Rattle.seg_reader.specs.Stands.{StandsFor}
 use Rattle.script_serving.specs.Refusals.{put_publishes}
-use Rattle.primary_state.specs.Held.{AreNumbered}
+use Rattle.index_primary.specs.Held.{AreNumbered}
 use Rattle.commit_steps.specs.Book.{commit_of}
 use Rattle.commit_steps.specs.declared.states.Commit.{Commit}
 use Rattle.commit_steps.specs.declared.stage.Stage.{Stage}
 use Rattle.commit_steps.specs.declared.stage.CommitBook.{CommitBook}
-use Rattle.replica_state.specs.Given.{FindsPoint, IsSettledOn}
+use Rattle.replica_node.specs.Given.{FindsPoint, IsSettledOn}
 use Rattle.history_rules.specs.declared.entry.Event.TheVariants.{Committing}
 use Rattle.history_rules.specs.Nodes.{Past, IsNode, generation_of, newest_version}
 use Rattle.history_rules.specs.Lines.{start_entry, commit_in_flight}

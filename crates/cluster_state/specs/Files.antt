@@ -7,14 +7,14 @@ use Rattle.disk_model.specs.Disk.{Name, Content, Cells}
 use Rattle.file_names.specs.Names.{live_name_of}
 use Rattle.segment_infos.specs.declared.infos.SegRecord.{SegRecord}
 use Rattle.segment_steps.specs.Next.{live_base}
-use Rattle.primary_state.specs.declared.parts.PrimaryParts.{PrimaryParts}
-use Rattle.primary_state.specs.declared.states.Out.{Out}
-use Rattle.primary_state.specs.Primary.{loose_of, IsUnwritten}
-use Rattle.primary_state.specs.Held.{IsUndrawn}
-use Rattle.replica_state.specs.Given.{HasMeta, IsLasting}
-use Rattle.replica_state.specs.declared.job.PointJob.{PointJob}
-use Rattle.replica_state.specs.declared.parts.ReplicaParts.{ReplicaParts}
-use Rattle.replica_state.specs.Sources.{HeldReadAs, IsSourced}
+use Rattle.index_primary.specs.declared.parts.PrimaryParts.{PrimaryParts}
+use Rattle.index_primary.specs.declared.states.Out.{Out}
+use Rattle.index_primary.specs.Primary.{loose_of, IsUnwritten}
+use Rattle.index_primary.specs.Held.{IsUndrawn}
+use Rattle.replica_node.specs.Given.{HasMeta, IsLasting}
+use Rattle.replica_node.specs.declared.job.PointJob.{PointJob}
+use Rattle.replica_node.specs.declared.parts.ReplicaParts.{ReplicaParts}
+use Rattle.replica_node.specs.Sources.{HeldReadAs, IsSourced}
 use Rattle.history_rules.specs.Nodes.{Past, IsNode, newest_version, generation_of, version_of}
 use Rattle.history_rules.specs.Lines.{start_entry, before_start, copy_in_flight}
 use Rattle.history_rules.specs.Commits.{is_passed}

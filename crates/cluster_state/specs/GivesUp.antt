@@ -3,10 +3,10 @@ use Rattle.std.specs.Prelude.{ℕ, ◌≡◌, ◌∷◌, ◌+◌, Bool, true, fa
 use Rattle.nrt_base.specs.declared.numbers.At.{At}
 use Rattle.disk_model.specs.Disk.{Name, Cells}
 use Rattle.searcher_switch.specs.Appearing.{AppearsOnly}
-use Rattle.primary_state.specs.declared.parts.PrimaryParts.{PrimaryParts}
-use Rattle.primary_state.specs.Held.{IsOwnFile}
-use Rattle.primary_state.specs.Primary.{KeepsHeldBytes, loose_of}
-use Rattle.primary_state.specs.Calls.{DrawsOnly, HoldsNoNew}
+use Rattle.index_primary.specs.declared.parts.PrimaryParts.{PrimaryParts}
+use Rattle.index_primary.specs.Held.{IsOwnFile}
+use Rattle.index_primary.specs.Primary.{KeepsHeldBytes, loose_of}
+use Rattle.index_primary.specs.Calls.{DrawsOnly, HoldsNoNew}
 use Rattle.history_rules.specs.declared.entry.Event.{Event}
 use Rattle.history_rules.specs.declared.entry.Event.TheVariants.{Publishing, Published, Refused}
 use Rattle.history_rules.specs.declared.cause.Cause.TheVariants.{DiskFault, Lost}

@@ -1,7 +1,7 @@
 -- The files of the jobs that copy points to nodes, as callers see them.
 use Rattle.std.specs.Prelude.{ℕ, List, [], map, Option, Some, None}
 use Rattle.copy_job.specs.Parts.{own_names}
-use Rattle.replica_state.specs.declared.job.PointJob.{PointJob}
+use Rattle.replica_node.specs.declared.job.PointJob.{PointJob}
 use Rattle.cluster_nodes.specs.declared.nodes.Node.TheVariants.{Primary, Replica, Down}
 use Rattle.cluster_nodes.specs.declared.nodes.NodePlace.{NodePlace}
 use Rattle.cluster_state.specs.Run.{JobFiles, no_files}

@@ -5,14 +5,14 @@ use Rattle.disk_model.specs.Disk.{Name, Content}
 use Rattle.copy_state.specs.States.{meta_names, IsCopyState}
 use Rattle.copy_job.specs.Jobs.{Job}
 use Rattle.segment_steps.specs.Given.{Merged}
-use Rattle.primary_state.specs.declared.parts.PrimaryParts.{PrimaryParts}
-use Rattle.primary_state.specs.declared.states.Merging.{Merging}
-use Rattle.primary_state.specs.declared.states.Out.{Out}
-use Rattle.primary_state.specs.Merges.{merge_of}
-use Rattle.primary_state.specs.States.{out_of, IsMetaIn}
-use Rattle.primary_state.specs.Written.{names_of}
-use Rattle.replica_state.specs.declared.parts.ReplicaParts.{ReplicaParts}
-use Rattle.replica_state.specs.Merges.{copy_at}
+use Rattle.index_primary.specs.declared.parts.PrimaryParts.{PrimaryParts}
+use Rattle.index_primary.specs.declared.states.Merging.{Merging}
+use Rattle.index_primary.specs.declared.states.Out.{Out}
+use Rattle.index_primary.specs.Merges.{merge_of}
+use Rattle.index_primary.specs.States.{out_of, IsMetaIn}
+use Rattle.index_primary.specs.Written.{names_of}
+use Rattle.replica_node.specs.declared.parts.ReplicaParts.{ReplicaParts}
+use Rattle.replica_node.specs.Merges.{copy_at}
 use Rattle.history_rules.specs.Nodes.{IsNode, primary_of}
 use Rattle.history_book.specs.Log.{Log, printed}
 use Rattle.cluster_nodes.specs.Given.{IsFitTask}

@@ -7,7 +7,7 @@ use Rattle.file_deleter.specs.Holdings.{IsThere}
 use Rattle.seg_reader.specs.Shown.{Shown}
 use Rattle.searcher_switch.specs.declared.open.Open.{Open}
 use Rattle.searcher_switch.specs.declared.open.SearchPoint.{SearchPoint}
-use Rattle.primary_state.specs.Primary.{loose_of}
+use Rattle.index_primary.specs.Primary.{loose_of}
 use Rattle.history_rules.specs.Nodes.{Past}
 use Rattle.history_rules.specs.Points.{is_drawn}
 use Rattle.history_rules.specs.Rules.{MayHaveName}

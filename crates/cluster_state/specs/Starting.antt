@@ -6,10 +6,10 @@ use Rattle.cluster_nodes.specs.declared.nodes.Node.TheVariants.{Primary, Replica
 use Rattle.disk_model.specs.Disk.{Name, Cells, Image, IsImage, reads_of}
 use Rattle.seg_reader.specs.Stands.{StandsFor, AreSegmentsOf}
 use Rattle.commit_steps.specs.declared.stage.CommitBook.{CommitBook}
-use Rattle.replica_state.specs.Given.{opening_infos}
-use Rattle.replica_state.specs.declared.parts.ReplicaParts.{ReplicaParts}
-use Rattle.replica_state.specs.Replica.{IsWholeReplica, AreStanding}
-use Rattle.replica_state.specs.Sources.{IsSourced}
+use Rattle.replica_node.specs.Given.{opening_infos}
+use Rattle.replica_node.specs.declared.parts.ReplicaParts.{ReplicaParts}
+use Rattle.replica_node.specs.Replica.{IsWholeReplica, AreStanding}
+use Rattle.replica_node.specs.Sources.{IsSourced}
 use Rattle.cluster_nodes.specs.declared.nodes.NodePlace.{NodePlace}
 use Rattle.cluster_state.specs.State.{PlaceShows}
 use Rattle.cluster_state.specs.Names.{NamesShow}

@@ -17,11 +17,11 @@ use Rattle.history_rules.specs.Points.{documents_at, operations_of_generation, c
 use Rattle.history_rules.specs.Tickets.{open_ticket, IsTicketOf}
 use Rattle.history_rules.specs.Tasks.{merge_count}
 use Rattle.history_book.specs.Log.{Log, printed}
-use Rattle.primary_state.specs.declared.parts.PrimaryParts.{PrimaryParts}
-use Rattle.primary_state.specs.declared.parts.Publish.{Publish}
-use Rattle.primary_state.specs.Primary.{IsPrimary}
-use Rattle.replica_state.specs.declared.parts.ReplicaParts.{ReplicaParts}
-use Rattle.replica_state.specs.Replica.{IsWholeReplica, AreStanding}
+use Rattle.index_primary.specs.declared.parts.PrimaryParts.{PrimaryParts}
+use Rattle.index_primary.specs.declared.parts.Publish.{Publish}
+use Rattle.index_primary.specs.Primary.{IsPrimary}
+use Rattle.replica_node.specs.declared.parts.ReplicaParts.{ReplicaParts}
+use Rattle.replica_node.specs.Replica.{IsWholeReplica, AreStanding}
 use Rattle.cluster_nodes.specs.declared.held.HeldTicket.{HeldTicket}
 use Rattle.cluster_nodes.specs.declared.held.HeldKey.{HeldKey}
 use Rattle.cluster_nodes.specs.declared.held.HeldKey.TheVariants.{Ticket, Search}

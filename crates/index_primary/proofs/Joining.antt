@@ -33,9 +33,9 @@ use Rattle.segment_steps.proofs.NextNames as steps_names
 use Rattle.segment_steps.proofs.NextSpelling.{next_few}
 use Rattle.segment_steps.specs.CutOver.{IsMergeOf}
 use Rattle.segment_steps.proofs.AfterPublish.{IsOther, flush_fits, publish_keeps_merge}
-use Rattle.primary_state.proofs.MergeLists.{no_input}
-use Rattle.primary_state.specs.Held.{drawn_to, IsDrawnRecord, AreNumbered, next_infos}
-use Rattle.primary_state.specs.Written.{names_of}
+use Rattle.index_primary.proofs.MergeLists.{no_input}
+use Rattle.index_primary.specs.Held.{drawn_to, IsDrawnRecord, AreNumbered, next_infos}
+use Rattle.index_primary.specs.Written.{names_of}
 use Rattle.index_primary.specs.Publishing.{IsStep}
 use Rattle.index_primary.specs.NextNames.{Kept, New, IsIn, gen_after, new_gen, raised_names, new_names, AreApart, IsDrawn, AreNextNames}
 use Rattle.index_primary.specs.NextRecords.{IsNextRecord, IsFreshRecord, AreFresh, AreNextRecords}

@@ -13,7 +13,7 @@ use Rattle.segment_infos.specs.declared.infos.SegRecord.{SegRecord}
 use Rattle.segment_infos.specs.declared.infos.Infos.{Infos}
 use Rattle.file_deleter.specs.Holdings.{times}
 use Rattle.file_deleter.proofs.NameLemmas.{times-cons, times-append, not_among_times, among-append}
-use Rattle.primary_state.specs.Held.{drawn_to, IsNextLive, IsUndrawn, IsOwnFile, part, live, next_live, next_infos}
+use Rattle.index_primary.specs.Held.{drawn_to, IsNextLive, IsUndrawn, IsOwnFile, part, live, next_live, next_infos}
 use Rattle.index_primary.specs.NextNames.{Kept, New, IsIn, gen_after, new_gen, raised_names, new_names, AreApart, IsDrawn, AreNextNames}
 use Rattle.segment_steps.specs.Next.{next_live_gen}
 

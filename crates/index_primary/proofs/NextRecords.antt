@@ -7,7 +7,7 @@ use Rattle.std.proofs.lemmas.List.Kept.{AllPairs-cons}
 use Rattle.segment_infos.specs.declared.infos.SegRecord.{SegRecord}
 use Rattle.segment_infos.specs.declared.infos.Infos.{Infos}
 use Rattle.segment_infos.specs.Infos.{CanSpell, IsRecord}
-use Rattle.primary_state.specs.Held.{drawn_to, IsDrawnRecord, AreNumbered, next_infos}
+use Rattle.index_primary.specs.Held.{drawn_to, IsDrawnRecord, AreNumbered, next_infos}
 use Rattle.index_primary.specs.NextNames.{Kept, New, AreApart, IsDrawn}
 use Rattle.segment_steps.specs.Next.{next_live_gen}
 use Rattle.index_primary.specs.NextRecords.{IsNextRecord, IsFreshRecord, AreFresh, AreNextRecords}

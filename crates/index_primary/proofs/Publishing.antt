@@ -24,21 +24,21 @@ use Rattle.searcher_switch.specs.Searching.{searcher_names}
 use Rattle.searcher_switch.specs.Node.{IsWholeNode, IsApart, HasNoPending}
 use Rattle.searcher_switch.proofs.Carry.{node_gathers, node_lets_go, node_same_names, node_same_counts, node_there, nothing_written, unheld_apart, front_counted}
 use Rattle.searcher_switch.proofs.Standing.{segments_along, standing_kept}
-use Rattle.primary_state.specs.declared.parts.PrimaryParts.{PrimaryParts}
-use Rattle.primary_state.specs.declared.parts.Publish.{Publish}
+use Rattle.index_primary.specs.declared.parts.PrimaryParts.{PrimaryParts}
+use Rattle.index_primary.specs.declared.parts.Publish.{Publish}
 use Rattle.index_primary.specs.declared.ready.Ready.{Ready}
 use Rattle.searcher_switch.specs.Appearing.{AppearsOnly}
 use Rattle.searcher_switch.proofs.Appearing.{keeps_only}
-use Rattle.primary_state.specs.Held.{IsHeld, IsUndrawn, IsOwnFile, AreNumbered}
-use Rattle.primary_state.specs.Primary.{rest_names, primary_names, rest_loose, loose_of, filled_of, IsPrimary}
-use Rattle.primary_state.specs.declared.states.Merging.{Merging}
-use Rattle.primary_state.specs.Merges.{merge_inputs, IsMerging}
-use Rattle.primary_state.proofs.MergeLists.{merging_kept, inputs_within}
+use Rattle.index_primary.specs.Held.{IsHeld, IsUndrawn, IsOwnFile, AreNumbered}
+use Rattle.index_primary.specs.Primary.{rest_names, primary_names, rest_loose, loose_of, filled_of, IsPrimary}
+use Rattle.index_primary.specs.declared.states.Merging.{Merging}
+use Rattle.index_primary.specs.Merges.{merge_inputs, IsMerging}
+use Rattle.index_primary.proofs.MergeLists.{merging_kept, inputs_within}
 use Rattle.nrt_base.specs.declared.numbers.SegNo.{SegNo}
-use Rattle.primary_state.specs.Written.{names_of, ReadsSo}
+use Rattle.index_primary.specs.Written.{names_of, ReadsSo}
 use Rattle.index_primary.specs.Publishing.{IsStep, IsReady, HasWritten}
-use Rattle.primary_state.proofs.Holding.{named_times, undrawn_plain}
-use Rattle.primary_state.proofs.Keeping.{writer_counted, book_counted, merges_counted, primary_same}
+use Rattle.index_primary.proofs.Holding.{named_times, undrawn_plain}
+use Rattle.index_primary.proofs.Keeping.{writer_counted, book_counted, merges_counted, primary_same}
 
 -- a step keeps each merge in flight whose inputs are held
 merging_step : (held : List SegNo) (infos : Infos) (segs : List Shown) (loose still filled : List ℕ) (records : List SegRecord) (fresh : List Shown) (files : List File) → IsStep infos segs loose still filled held records fresh files

@@ -13,18 +13,18 @@ use Rattle.file_deleter.proofs.NameLemmas.{times-append}
 use Rattle.commit_steps.specs.Book.{book_names}
 use Rattle.searcher_switch.specs.Tickets.{ticket_names}
 use Rattle.searcher_switch.specs.Searching.{searcher_names}
-use Rattle.primary_state.specs.declared.parts.PrimaryParts.{PrimaryParts}
-use Rattle.primary_state.specs.declared.parts.Publish.{Publish}
-use Rattle.primary_state.specs.Held.{IsUndrawn, drawn_to, next_infos}
-use Rattle.primary_state.specs.States.{state_names}
-use Rattle.primary_state.specs.Merges.{merge_names}
-use Rattle.primary_state.specs.Primary.{publish_loose, rest_loose, loose_of, filled_of, IsUnwritten, rest_names, primary_names, IsPrimary}
+use Rattle.index_primary.specs.declared.parts.PrimaryParts.{PrimaryParts}
+use Rattle.index_primary.specs.declared.parts.Publish.{Publish}
+use Rattle.index_primary.specs.Held.{IsUndrawn, drawn_to, next_infos}
+use Rattle.index_primary.specs.States.{state_names}
+use Rattle.index_primary.specs.Merges.{merge_names}
+use Rattle.index_primary.specs.Primary.{publish_loose, rest_loose, loose_of, filled_of, IsUnwritten, rest_names, primary_names, IsPrimary}
 use Rattle.index_primary.specs.Publishing.{IsStepOf}
-use Rattle.primary_state.specs.Calls.{KeepsOthers, FillsUndrawn, DrawsOnly}
-use Rattle.primary_state.proofs.Holding.{named_times}
-use Rattle.primary_state.proofs.Keeping.{states_split, writer_counted}
-use Rattle.primary_state.proofs.NewFiles.{undrawn_of, named_of}
-use Rattle.primary_state.proofs.Drawing.{counted_on, drawn_now}
+use Rattle.index_primary.specs.Calls.{KeepsOthers, FillsUndrawn, DrawsOnly}
+use Rattle.index_primary.proofs.Holding.{named_times}
+use Rattle.index_primary.proofs.Keeping.{states_split, writer_counted}
+use Rattle.index_primary.proofs.NewFiles.{undrawn_of, named_of}
+use Rattle.index_primary.proofs.Drawing.{counted_on, drawn_now}
 
 module _ {D : Type 0} (cells : D → Cells) (p n : PrimaryParts D) where
   -- A STEP counts files that were not written yet, beside those that were counted

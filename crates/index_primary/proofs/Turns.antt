@@ -12,7 +12,7 @@ use Rattle.file_names.specs.Names.{part_name_of, live_name_of}
 use Rattle.disk_model.specs.Disk.{Name}
 use Rattle.segment_infos.specs.declared.infos.SegRecord.{SegRecord}
 use Rattle.seg_reader.specs.Shown.{Shown}
-use Rattle.primary_state.specs.Written.{names_of}
+use Rattle.index_primary.specs.Written.{names_of}
 use Rattle.segment_steps.specs.Next.{Turn, record_after, is_changed, IsLiveFileAfter, next_live_gen}
 use Rattle.index_primary.specs.NextNames.{Kept, IsIn, gen_after, raised_names, new_names, AreApart}
 use Rattle.index_primary.specs.NextRecords.{IsNextRecord, IsFreshRecord}

@@ -14,14 +14,14 @@ use Rattle.segment_steps.specs.Segments.{HasItsRows}
 use Rattle.segment_steps.specs.Next.{IsBounded, IsNextOf, IsBuiltWork}
 use Rattle.segment_steps.proofs.AfterPublish.{flush_fits}
 use Rattle.segment_steps.proofs.PublishLaws.{publish_stand}
-use Rattle.primary_state.specs.declared.parts.PrimaryParts.{PrimaryParts}
-use Rattle.primary_state.specs.declared.parts.Publish.{Publish}
+use Rattle.index_primary.specs.declared.parts.PrimaryParts.{PrimaryParts}
+use Rattle.index_primary.specs.declared.parts.Publish.{Publish}
 use Rattle.seg_reader.specs.Stands.{AreSegmentsOf}
-use Rattle.primary_state.specs.Primary.{IsPrimary, loose_in, publish_loose, rest_loose, loose_of, filled_of}
-use Rattle.primary_state.proofs.MergeLists.{filled_loose}
+use Rattle.index_primary.specs.Primary.{IsPrimary, loose_in, publish_loose, rest_loose, loose_of, filled_of}
+use Rattle.index_primary.proofs.MergeLists.{filled_loose}
 use Rattle.index_primary.specs.Publishing.{IsStep}
-use Rattle.primary_state.specs.Work.{IsWorkOf}
-use Rattle.primary_state.specs.Cut.{cut_by}
+use Rattle.index_primary.specs.Work.{IsWorkOf}
+use Rattle.index_primary.specs.Cut.{cut_by}
 use Rattle.index_primary.proofs.Joining.{as_many, step_of}
 
 number_there : (rest : List ℕ) (o : Option SegNo) → IfSome o (λ (s : SegNo). Contains (loose_in o ++ rest) s.0)

@@ -7,7 +7,7 @@ use Rattle.disk_model.specs.Disk.{Name}
 use Rattle.segment_infos.specs.declared.infos.SegRecord.{SegRecord}
 use Rattle.segment_infos.specs.declared.infos.Infos.{Infos}
 use Rattle.segment_steps.specs.Next.{next_live_gen}
-use Rattle.primary_state.specs.Held.{drawn_to}
+use Rattle.index_primary.specs.Held.{drawn_to}
 
 -- a segment that stays: its record before, and whether it gets a live file
 abbrev pub Kept : Type 0

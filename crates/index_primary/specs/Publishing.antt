@@ -13,15 +13,15 @@ use Rattle.seg_reader.specs.Stands.{IsSegmentIn, AreSegmentsOf}
 use Rattle.copy_state.specs.States.{AreShortNames}
 use Rattle.seg_build.specs.Built.{File}
 use Rattle.searcher_switch.specs.Node.{IsWholeNode}
-use Rattle.primary_state.specs.declared.parts.PrimaryParts.{PrimaryParts}
+use Rattle.index_primary.specs.declared.parts.PrimaryParts.{PrimaryParts}
 use Rattle.index_primary.specs.declared.ready.Ready.{Ready}
 use Rattle.searcher_switch.specs.Standing.{IsStanding}
-use Rattle.primary_state.specs.Held.{IsUndrawn, IsOwnFile, AreUndrawn, AreNumbered, next_infos}
-use Rattle.primary_state.specs.Primary.{primary_names, rest_loose, loose_of, filled_of}
-use Rattle.primary_state.specs.Merges.{merge_inputs, IsMerging, AreApartMerges}
+use Rattle.index_primary.specs.Held.{IsUndrawn, IsOwnFile, AreUndrawn, AreNumbered, next_infos}
+use Rattle.index_primary.specs.Primary.{primary_names, rest_loose, loose_of, filled_of}
+use Rattle.index_primary.specs.Merges.{merge_inputs, IsMerging, AreApartMerges}
 use Rattle.nrt_base.specs.declared.numbers.SegNo.{SegNo}
 use Rattle.segment_steps.specs.CutOver.{IsMergeOf}
-use Rattle.primary_state.specs.Written.{names_of}
+use Rattle.index_primary.specs.Written.{names_of}
 
 -- What is made of the writer's segments: where the writer's files read as they do and the new files read so, the new infos have the new segments; these are of some documents;
 -- the new infos name the writer's files and the new ones; the new files were not written yet, and are the writer's own; what is not written yet afterwards was not before;

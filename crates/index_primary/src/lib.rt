@@ -1,14 +1,26 @@
-//! A primary: its publishes, and all its calls as one type.
+//! A primary: what it is made of, what is true of it, and its calls. They are one crate, since the methods of a type stand in
+//! the crate of the type.
 #![tactic(auto)]
 
-mod cut;
-mod ends;
+mod commits;
+mod copies;
+mod merge_cuts;
+mod merge_ends;
+mod merge_files;
+mod merge_starts;
+mod opens;
+mod parts;
 mod primary;
+mod publish_ends;
+mod publish_starts;
 mod ready;
-mod starts;
+mod states;
+mod tickets;
+mod waiting;
+mod write;
 
+pub use parts::{PrimaryFault, PrimaryParts, Publish, PublishFault};
 pub use primary::Primary;
-pub use primary_merges::{
-    FlushTask, FlushWork, MergeTask, Merged, Merging, NextSegments, Out, PrimaryFault,
-    PrimaryParts, Publish, PublishFault, flush,
-};
+pub use searcher_switch::{Lease, Ticket};
+pub use segment_steps::{FlushTask, FlushWork, MergeTask, Merged, NextSegments, flush};
+pub use states::{Merging, Out};

@@ -9,7 +9,7 @@ use Rattle.seg_merge.specs.declared.task.MergeTask.{MergeTask}
 use Rattle.history_book.specs.declared.inner.Mark.{Mark}
 use Rattle.history_book.specs.declared.inner.Mark.TheVariants.{Shown, TaskFault, Kept}
 use Rattle.history_book.specs.Log.{Log, lane_name, name_inside}
-use Rattle.primary_merges.specs.StartCalls.{IsFitTask}
+use Rattle.index_primary.specs.StartCalls.{IsFitTask}
 use Rattle.merge_tasks.specs.declared.tasks.Task.{Task}
 use Rattle.merge_tasks.specs.TaskLog.{inputs_out, merge_task, carried_out}
 use Rattle.merge_tasks.specs.Board.{IsToldKind}

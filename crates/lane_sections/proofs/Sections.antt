@@ -21,7 +21,7 @@ use Rattle.lane_threads.proofs.SeatLemmas.{line_extends, section_extends, sectio
 use Rattle.cluster_state.specs.Run.{IsEnded}
 use Rattle.cluster_state.specs.declared.turn.Turn.{Turn}
 use Rattle.cluster_state.specs.declared.turn.Turn.TheVariants.{Work, Done, Busy}
-use Rattle.cluster_core.specs.Doing.{IsReplied}
+use Rattle.cluster_site.specs.Given.{IsReplied}
 use Rattle.cluster_site.specs.Sites.{SiteRun, DoesAtSite, is_logged}
 use Rattle.lane_sections.specs.Turns.{TakesLineTo, IsUnbegunIn, TurnShows, TurnsLine}
 

@@ -12,7 +12,7 @@ use Rattle.lane_threads.specs.Seats.{log_seen, TakesLineOn, EndsItsLine}
 use Rattle.cluster_state.specs.declared.turn.Turn.{Turn}
 use Rattle.cluster_state.specs.declared.turn.Turn.TheVariants.{Work, Done, Busy}
 use Rattle.cluster_state.specs.Run.{Run}
-use Rattle.cluster_core.specs.Doing.{IsReplied}
+use Rattle.cluster_site.specs.Given.{IsReplied}
 use Rattle.cluster_site.specs.Sites.{SiteRun}
 
 -- a line that never waits

@@ -15,13 +15,13 @@ use Rattle.copy_state.specs.declared.meta.FileMetaData.{FileMetaData}
 use Rattle.copy_state.specs.States.{meta_names, meta_in}
 use Rattle.copy_job.specs.declared.copying.Part.{Part}
 use Rattle.copy_job.specs.Jobs.{Job, IsJob, with_part}
-use Rattle.replica_state.specs.declared.parts.ReplicaParts.{ReplicaParts}
-use Rattle.replica_state.specs.declared.job.PointJob.{PointJob}
-use Rattle.replica_state.specs.declared.merges.MergeCopies.{MergeCopies}
-use Rattle.replica_state.specs.Merges.{copy_at, copies_with, copies_without, copies_seen, no_copies, SharesNone}
-use Rattle.replica_state.specs.Jobs.{job_seen, merge_job_on, running_point}
-use Rattle.replica_state.specs.Replica.{IsWholeReplica, AreStanding, MayLaunch}
-use Rattle.replica_state.specs.Sources.{IsSourced, KeepsSource}
+use Rattle.replica_node.specs.declared.parts.ReplicaParts.{ReplicaParts}
+use Rattle.replica_node.specs.declared.job.PointJob.{PointJob}
+use Rattle.replica_node.specs.declared.merges.MergeCopies.{MergeCopies}
+use Rattle.replica_node.specs.Merges.{copy_at, copies_with, copies_without, copies_seen, no_copies, SharesNone}
+use Rattle.replica_node.specs.Jobs.{job_seen, merge_job_on, running_point}
+use Rattle.replica_node.specs.Replica.{IsWholeReplica, AreStanding, MayLaunch}
+use Rattle.replica_node.specs.Sources.{IsSourced, KeepsSource}
 use Rattle.cluster_nodes.specs.Given.{running_job, with_job, without_job}
 use Rattle.cluster_nodes.specs.declared.nodes.Node.{Node}
 use Rattle.cluster_nodes.specs.declared.nodes.Node.TheVariants.{Primary, Replica, Down}
@@ -29,7 +29,7 @@ use Rattle.cluster_nodes.specs.declared.nodes.NodePlace.{NodePlace}
 use Rattle.cluster_nodes.specs.JobChanges.{IsNextToFetch}
 use Rattle.history_tables.proofs.RowLemmas.{by_test}
 use Rattle.cluster_nodes.proofs.JobFiles.{wanted_meta}
-use Rattle.primary_state.specs.declared.parts.PrimaryParts.{PrimaryParts}
+use Rattle.index_primary.specs.declared.parts.PrimaryParts.{PrimaryParts}
 use Rattle.node_merges.specs.declared.copies.CopyStep.{CopyStep}
 use Rattle.node_merges.specs.declared.copies.CopyStep.TheVariants.{Gone}
 use Rattle.node_merges.specs.MergeChanges.{is_copy_of, MaySend, SendsMerged, IsStepOf, TakesMerged, DropsMerged}

@@ -14,22 +14,22 @@ use Rattle.copy_job.specs.declared.copying.Part.{Part}
 use Rattle.copy_job.specs.Jobs.{Job, reads_under}
 use Rattle.seg_merge.specs.declared.task.MergeTask.{MergeTask}
 use Rattle.seg_merge.specs.declared.task.Merged.{Merged}
-use Rattle.primary_state.specs.declared.parts.PrimaryParts.{PrimaryParts}
-use Rattle.primary_state.specs.declared.parts.PublishFault.{PublishFault}
-use Rattle.primary_state.specs.declared.states.Out.{Out}
-use Rattle.primary_state.specs.Cut.{last_number}
-use Rattle.primary_state.specs.Held.{IsOwnFile}
-use Rattle.primary_state.specs.States.{out_of, is_out, states_without, IsStateOf}
-use Rattle.primary_state.specs.Written.{names_of, ReadsSo}
-use Rattle.primary_state.specs.Primary.{IsPrimary, KeepsHeldBytes, loose_of}
-use Rattle.primary_state.specs.Calls.{FillsUndrawn, DrawsOnly, HoldsNoNew}
+use Rattle.index_primary.specs.declared.parts.PrimaryParts.{PrimaryParts}
+use Rattle.index_primary.specs.declared.parts.PublishFault.{PublishFault}
+use Rattle.index_primary.specs.declared.states.Out.{Out}
+use Rattle.index_primary.specs.Cut.{last_number}
+use Rattle.index_primary.specs.Held.{IsOwnFile}
+use Rattle.index_primary.specs.States.{out_of, is_out, states_without, IsStateOf}
+use Rattle.index_primary.specs.Written.{names_of, ReadsSo}
+use Rattle.index_primary.specs.Primary.{IsPrimary, KeepsHeldBytes, loose_of}
+use Rattle.index_primary.specs.Calls.{FillsUndrawn, DrawsOnly, HoldsNoNew}
 use Rattle.cluster_nodes.specs.Given.{AnswersMerge, IsFitTask, IsReadied, IsFilledMerge, IsCutOver, KeepsDocuments, SettlesCopy}
 use Rattle.cluster_nodes.specs.JobChanges.{IsNextToFetch}
-use Rattle.replica_state.specs.declared.parts.ReplicaParts.{ReplicaParts}
-use Rattle.replica_state.specs.Merges.{copy_at, copies_with, copies_without, copies_seen, IsSegmentState, SharesNone}
-use Rattle.replica_state.specs.Jobs.{merge_job_on, job_seen, running_point}
-use Rattle.replica_state.specs.Replica.{IsWholeReplica, AreStanding}
-use Rattle.replica_state.specs.Sources.{IsSourced, KeepsSource}
+use Rattle.replica_node.specs.declared.parts.ReplicaParts.{ReplicaParts}
+use Rattle.replica_node.specs.Merges.{copy_at, copies_with, copies_without, copies_seen, IsSegmentState, SharesNone}
+use Rattle.replica_node.specs.Jobs.{merge_job_on, job_seen, running_point}
+use Rattle.replica_node.specs.Replica.{IsWholeReplica, AreStanding}
+use Rattle.replica_node.specs.Sources.{IsSourced, KeepsSource}
 use Rattle.node_merges.specs.declared.copies.CopyStep.{CopyStep}
 use Rattle.node_merges.specs.declared.copies.CopyStep.TheVariants.{Gone, Waits, Complete, Wants}
 

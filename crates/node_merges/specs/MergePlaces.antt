@@ -7,8 +7,8 @@ use Rattle.copy_state.specs.declared.state.CopyState.{CopyState}
 use Rattle.copy_job.specs.declared.copying.Part.{Part}
 use Rattle.seg_merge.specs.declared.task.MergeTask.{MergeTask}
 use Rattle.seg_merge.specs.declared.task.Merged.{Merged}
-use Rattle.primary_state.specs.declared.parts.PrimaryParts.{PrimaryParts}
-use Rattle.primary_state.specs.declared.parts.PublishFault.{PublishFault}
+use Rattle.index_primary.specs.declared.parts.PrimaryParts.{PrimaryParts}
+use Rattle.index_primary.specs.declared.parts.PublishFault.{PublishFault}
 use Rattle.cluster_nodes.specs.Given.{IsMadeFor}
 use Rattle.cluster_nodes.specs.declared.held.HeldTicket.{HeldTicket}
 use Rattle.cluster_nodes.specs.declared.nodes.Node.TheVariants.{Primary, Replica, Down}
@@ -16,8 +16,8 @@ use Rattle.cluster_nodes.specs.declared.nodes.NodePlace.{NodePlace}
 use Rattle.cluster_nodes.specs.Places.{place_of, IsSlot, HasPrimary}
 use Rattle.cluster_nodes.specs.JobChanges.{HasReplica}
 use Rattle.cluster_nodes.specs.JobPlaces.{IsPrimaryAt, IsReplicaAt, MovesOne}
-use Rattle.replica_state.specs.declared.parts.ReplicaParts.{ReplicaParts}
-use Rattle.replica_state.specs.Merges.{copy_at}
+use Rattle.replica_node.specs.declared.parts.ReplicaParts.{ReplicaParts}
+use Rattle.replica_node.specs.Merges.{copy_at}
 use Rattle.node_merges.specs.declared.copies.CopyStep.{CopyStep}
 use Rattle.node_merges.specs.declared.copies.CopyStep.TheVariants.{Gone}
 use Rattle.node_merges.specs.MergeChanges.{is_copy_of, AsksMerge, ReadiesMerge, MayCut, CutsMerge, MaySend, SendsMerged, IsStepOf, MayTakeMerged, TakesMerged, MaySettle, SettlesMerged, DropsMerged}

@@ -3,7 +3,7 @@
 ghost use Rattle.std.specs.Prelude.{◌≡◌, ◌<◌, ◌+◌, ◌^◌, true, false, None, Some, IsSome, IfSome, IfOk, OnOk};
 ghost use Rattle.copy_state.specs.Meta.{IsMetaOf};
 ghost use Rattle.copy_state.specs.States.{IsCopyState};
-ghost use Rattle.replica_state.specs.Merges.{copy_at};
+ghost use Rattle.replica_node.specs.Merges.{copy_at};
 ghost use Rattle.cluster_nodes.specs.Places.{place_of, IsSlot};
 ghost use Rattle.cluster_nodes.specs.JobChanges.{HasReplica};
 ghost use Rattle.node_merges.specs.MergeChanges.{is_copy_of, MaySend, SendsMerged, IsStepOf, MayTakeMerged, TakesMerged, MaySettle, SettlesMerged, DropsMerged};

@@ -1,7 +1,7 @@
 //! The steps of a merge at the primary.
 
 ghost use Rattle.std.specs.Prelude.{◌≡◌, ◌≤◌, true, IfOk, OnOk};
-ghost use Rattle.primary_state.specs.States.{out_of, is_out};
+ghost use Rattle.index_primary.specs.States.{out_of, is_out};
 ghost use Rattle.cluster_nodes.specs.Given.{IsMadeFor};
 ghost use Rattle.cluster_nodes.specs.Places.{place_of, IsSlot, HasPrimary};
 ghost use Rattle.node_merges.specs.MergeChanges.{AsksMerge, ReadiesMerge, MayCut, CutsMerge};

@@ -11,9 +11,9 @@ use Rattle.searcher_switch.specs.declared.searchers.Searchers.{Searchers}
 use Rattle.searcher_switch.specs.Searching.{searcher_names}
 use Rattle.searcher_switch.specs.Tickets.{ticket_names}
 use Rattle.segment_steps.specs.declared.flushing.FlushTask.{FlushTask}
-use Rattle.primary_state.specs.declared.parts.PrimaryParts.{PrimaryParts}
-use Rattle.primary_state.specs.Calls.{IsTaskOf, after_start}
-use Rattle.primary_state.specs.Primary.{IsPrimary}
+use Rattle.index_primary.specs.declared.parts.PrimaryParts.{PrimaryParts}
+use Rattle.index_primary.specs.Calls.{IsTaskOf, after_start}
+use Rattle.index_primary.specs.Primary.{IsPrimary}
 
 -- ---- a primary without a segment
 pub no_names : (s : Searchers Shown) → s.point.names ≡ [] → s.tickets ≡ [] → searcher_names s ≡ []

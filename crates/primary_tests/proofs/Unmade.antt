@@ -11,13 +11,13 @@ use Rattle.disk_model.specs.Disk.{Name}
 use Rattle.seg_merge.specs.declared.task.MergeTask.{MergeTask}
 use Rattle.seg_merge.specs.declared.task.Merged.{Merged}
 use Rattle.seg_merge.specs.Merging.{IsMergedOf}
-use Rattle.primary_state.specs.declared.parts.PrimaryParts.{PrimaryParts}
-use Rattle.primary_state.specs.declared.states.Merging.{Merging}
-use Rattle.primary_state.specs.Written.{names_of}
-use Rattle.primary_state.specs.Merges.{merge_of, merges_with, merges_without}
-use Rattle.primary_merges.specs.StartCalls.{IsFitTask, StartsMerge}
-use Rattle.primary_merges.specs.MergeCalls.{IsMadeFor, IsReadied}
-use Rattle.primary_merges.specs.CutOverCalls.{IsFilledMerge}
+use Rattle.index_primary.specs.declared.parts.PrimaryParts.{PrimaryParts}
+use Rattle.index_primary.specs.declared.states.Merging.{Merging}
+use Rattle.index_primary.specs.Written.{names_of}
+use Rattle.index_primary.specs.Merges.{merge_of, merges_with, merges_without}
+use Rattle.index_primary.specs.StartCalls.{IsFitTask, StartsMerge}
+use Rattle.index_primary.specs.MergeCalls.{IsMadeFor, IsReadied}
+use Rattle.index_primary.specs.CutOverCalls.{IsFilledMerge}
 use Rattle.primary_tests.specs.declared.seen.Seen.{Seen}
 use Rattle.primary_tests.specs.Seeing.{IsSeen, tasks_of, unmade_tasks, given_tasks}
 

@@ -4,9 +4,9 @@ use Rattle.std.specs.List.{All}
 use Rattle.disk_model.specs.Disk.{Name, Cells}
 use Rattle.commit_steps.specs.Commits.{ImagesShowNothing}
 use Rattle.seg_merge.specs.declared.task.MergeTask.{MergeTask}
-use Rattle.primary_state.specs.declared.parts.PrimaryParts.{PrimaryParts}
-use Rattle.primary_state.specs.declared.states.Merging.{Merging}
-use Rattle.primary_merges.specs.StartCalls.{IsFitTask}
+use Rattle.index_primary.specs.declared.parts.PrimaryParts.{PrimaryParts}
+use Rattle.index_primary.specs.declared.states.Merging.{Merging}
+use Rattle.index_primary.specs.StartCalls.{IsFitTask}
 use Rattle.primary_tests.specs.declared.seen.Seen.{Seen}
 
 -- no name reads, and no image shows a commit

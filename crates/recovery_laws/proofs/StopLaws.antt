@@ -24,7 +24,7 @@ use Rattle.replica_opening.specs.Opening.{FindsPoint, number_of_last, opening_in
 use Rattle.replica_opening.specs.Opened.{IsSettledOn}
 use Rattle.replica_opening.proofs.Clearings.{one_found}
 use Rattle.replica_opening.proofs.Settled.{restarted_settled}
-use Rattle.replica_state.specs.declared.parts.ReplicaParts.{ReplicaParts}
+use Rattle.replica_node.specs.declared.parts.ReplicaParts.{ReplicaParts}
 use Rattle.recovery_laws.specs.Stops.{IsFoundAs, staged_commit, IsStillInFlight, CommitGoesOn, FindsCommit, OpensAt, StandsAt, StandsAgain, HasInfosAgain}
 
 -- ---- a crash

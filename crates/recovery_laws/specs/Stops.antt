@@ -10,8 +10,8 @@ use Rattle.commit_steps.specs.declared.stage.Stage.{Stage}
 use Rattle.commit_steps.specs.declared.stage.CommitBook.{CommitBook}
 use Rattle.commit_steps.specs.Book.{commit_of, shown_by}
 use Rattle.replica_opening.specs.Opening.{FindsPoint, number_of_last, opening_infos}
-use Rattle.replica_state.specs.declared.parts.ReplicaParts.{ReplicaParts}
-use Rattle.replica_state.specs.Starting.{SearchesJust}
+use Rattle.replica_node.specs.declared.parts.ReplicaParts.{ReplicaParts}
+use Rattle.replica_node.specs.Starting.{SearchesJust}
 
 -- the number and the infos that were found are those of this commit
 abbrev pub IsFoundAs : ℕ × Infos → Commit → Type 0

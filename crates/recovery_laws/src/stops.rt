@@ -4,7 +4,7 @@ ghost use Rattle.std.specs.Prelude.{◌≡◌, ◌<◌, true, IfOk, IfErr, IsSom
 ghost use Rattle.disk_model.specs.Disk.{HasCrashed};
 ghost use Rattle.commit_steps.specs.Recovery.{IsCutOff};
 ghost use Rattle.replica_opening.specs.Opened.{IsSettledOn};
-ghost use Rattle.replica_state.specs.Replica.{AreStanding};
+ghost use Rattle.replica_node.specs.Replica.{AreStanding};
 ghost use Rattle.recovery_laws.specs.Stops.{FindsCommit, CommitGoesOn, IsStillInFlight, OpensAt, StandsAgain, HasInfosAgain};
 
 use commit_steps::{RecoverFault, recover};

@@ -4,8 +4,8 @@ use Rattle.std.specs.Prelude.{IfSome, IsSome, if◌then◌else◌}
 use Rattle.std.specs.Option.{option_map}
 use Rattle.std.proofs.lemmas.Option.{same_Some, none-some}
 use Rattle.copy_job.specs.Jobs.{Job}
-use Rattle.replica_state.specs.declared.job.PointJob.{PointJob}
-use Rattle.replica_state.specs.Jobs.{running_point}
+use Rattle.replica_node.specs.declared.job.PointJob.{PointJob}
+use Rattle.replica_node.specs.Jobs.{running_point}
 
 -- the copy of a job is lent where it runs
 pub lent_some : (j : PointJob) → (if j.stopped then None else Some j.copy) ≡ option_map (λ (i : PointJob). i.copy) (running_point (Some j))

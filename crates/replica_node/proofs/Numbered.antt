@@ -8,13 +8,13 @@ use Rattle.std.specs.List.{AllByRecursion}
 use Rattle.std.proofs.lemmas.Result.{on_ok_weaker, on_err_weaker}
 use Rattle.disk_model.specs.Disk.{Name, Cells}
 use Rattle.copy_job.specs.Jobs.{Job, with_part}
-use Rattle.replica_state.specs.declared.job.PointJob.{PointJob}
-use Rattle.replica_state.specs.declared.merges.MergeCopies.{MergeCopies}
-use Rattle.replica_state.specs.declared.parts.ReplicaParts.{ReplicaParts}
-use Rattle.replica_state.specs.Merges.{copy_at, copies_with, copies_without, CopyApart}
-use Rattle.replica_state.specs.Jobs.{stopped_job}
-use Rattle.replica_state.specs.Replica.{IsWholeReplica}
-use Rattle.replica_state.proofs.Merging.{all_at, number_at}
+use Rattle.replica_node.specs.declared.job.PointJob.{PointJob}
+use Rattle.replica_node.specs.declared.merges.MergeCopies.{MergeCopies}
+use Rattle.replica_node.specs.declared.parts.ReplicaParts.{ReplicaParts}
+use Rattle.replica_node.specs.Merges.{copy_at, copies_with, copies_without, CopyApart}
+use Rattle.replica_node.specs.Jobs.{stopped_job}
+use Rattle.replica_node.specs.Replica.{IsWholeReplica}
+use Rattle.replica_node.proofs.Merging.{all_at, number_at}
 use Rattle.replica_node.specs.Running.{is_job_number, running_job, with_job, without_job}
 
 no_point : (number : ℕ) → is_job_number number None ≡ true → ⊥

@@ -17,11 +17,11 @@ use Rattle.copy_state.proofs.MetaLaws.{one_meta}
 use Rattle.copy_job.specs.declared.fault.JobFault.{JobFault}
 use Rattle.copy_job.specs.declared.fault.JobFault.TheVariants.{Memory, LinkFailed, Damaged, DirFailed, NameClash}
 use Rattle.copy_job.specs.Jobs.{Job, reads_under}
-use Rattle.replica_state.specs.Given.{IsLasting, HasMeta}
-use Rattle.replica_state.proofs.Given.{same_bytes}
-use Rattle.replica_state.specs.Jobs.{IsStartingFault}
-use Rattle.replica_state.specs.Sources.{CopiesFrom}
-use Rattle.replica_state.proofs.Named.{file_counted}
+use Rattle.replica_opening.specs.Known.{IsLasting, HasMeta}
+use Rattle.replica_opening.proofs.Clearings.{same_bytes}
+use Rattle.replica_node.specs.Jobs.{IsStartingFault}
+use Rattle.replica_node.specs.Sources.{CopiesFrom}
+use Rattle.replica_node.proofs.Named.{file_counted}
 
 -- what reads under a name has one metadata
 has_one : (reads other : Name → Content) (q : Name) (m n : FileMetaData) → reads q ≡ other q → HasMeta reads q m → HasMeta other q n → m ≡ n

@@ -16,21 +16,24 @@ use Rattle.searcher_switch.specs.declared.open.Open.{Open}
 use Rattle.searcher_switch.specs.declared.searchers.Searchers.{Searchers}
 use Rattle.searcher_switch.specs.Tickets.{ticket_names}
 use Rattle.searcher_switch.specs.Searching.{searcher_names}
-use Rattle.replica_state.specs.Given.{IsLasting, FindsPoint, number_of_last, Opened, IsNodeOpened, IsHandedBack}
-use Rattle.replica_state.specs.declared.merges.MergeCopies.{MergeCopies}
-use Rattle.replica_state.specs.declared.parts.ReplicaParts.{ReplicaParts}
-use Rattle.replica_state.specs.Merges.{no_copies}
-use Rattle.replica_state.specs.Sources.{IsSourced}
-use Rattle.replica_state.proofs.Named.{among_file, some_among}
+use Rattle.replica_opening.specs.Known.{IsLasting}
+use Rattle.replica_opening.specs.Opening.{FindsPoint, number_of_last}
+use Rattle.replica_opening.specs.declared.opening.Opened.{Opened}
+use Rattle.replica_opening.specs.Opened.{IsNodeOpened, IsHandedBack}
+use Rattle.replica_node.specs.declared.merges.MergeCopies.{MergeCopies}
+use Rattle.replica_node.specs.declared.parts.ReplicaParts.{ReplicaParts}
+use Rattle.replica_node.specs.Merges.{no_copies}
+use Rattle.replica_node.specs.Sources.{IsSourced}
+use Rattle.replica_node.proofs.Named.{among_file, some_among}
 use Rattle.commit_steps.proofs.Safe.{own_is, number_of_own}
-use Rattle.replica_state.specs.Waiting.{HasNoTemporary}
-use Rattle.replica_state.specs.Replica.{IsWholeReplica}
-use Rattle.replica_state.proofs.Temporary.{joins, files_no_temporary}
+use Rattle.replica_node.specs.Waiting.{HasNoTemporary}
+use Rattle.replica_node.specs.Replica.{IsWholeReplica}
+use Rattle.replica_node.proofs.Temporary.{joins, files_no_temporary}
 use Rattle.std.specs.Prelude.{IfSome, IsSomeAnd}
 use Rattle.std.proofs.lemmas.Option.{same_Some, none-some}
 use Rattle.searcher_switch.specs.Appearing.{NoneAppears}
 use Rattle.searcher_switch.proofs.Appearing.{there_or}
-use Rattle.replica_state.specs.Starting.{HasJustItsFiles}
+use Rattle.replica_node.specs.Starting.{HasJustItsFiles}
 use Rattle.segment_infos.specs.declared.infos.Infos.{Infos}
 use Rattle.commit_steps.specs.declared.states.Commit.{Commit}
 use Rattle.commit_steps.specs.declared.stage.Stage.{Stage}

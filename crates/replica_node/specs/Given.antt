@@ -1,4 +1,4 @@
 -- The words of the crates below that this crate gives on to those above.
-pub use Rattle.replica_copies.specs.Overlapping.{copies_beside, overlaps}
-pub use Rattle.replica_copies.specs.Settling.{SettlesCopy}
-pub use Rattle.replica_copies.specs.Parting.{pending_after}
+pub use Rattle.replica_opening.specs.Known.{HasMeta, IsLasting}
+pub use Rattle.replica_opening.specs.Opened.{IsSettledOn}
+pub use Rattle.replica_opening.specs.Opening.{FindsPoint, opening_infos}

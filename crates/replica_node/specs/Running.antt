@@ -2,10 +2,10 @@
 use Rattle.std.specs.Prelude.{◌==◌, ◌&&◌, not, ℕ, Bool, false, if◌then◌else◌, Option, Some, None}
 use Rattle.std.specs.Option.{option_map}
 use Rattle.copy_job.specs.Jobs.{Job}
-use Rattle.replica_state.specs.declared.job.PointJob.{PointJob}
-use Rattle.replica_state.specs.declared.parts.ReplicaParts.{ReplicaParts}
-use Rattle.replica_state.specs.Jobs.{stopped_job}
-use Rattle.replica_state.specs.Merges.{copy_at, copies_with, copies_without}
+use Rattle.replica_node.specs.declared.job.PointJob.{PointJob}
+use Rattle.replica_node.specs.declared.parts.ReplicaParts.{ReplicaParts}
+use Rattle.replica_node.specs.Jobs.{stopped_job}
+use Rattle.replica_node.specs.Merges.{copy_at, copies_with, copies_without}
 
 -- the test whether the number is that of the job of a newer point, which runs
 abbrev pub is_job_number : ℕ → Option PointJob → Bool

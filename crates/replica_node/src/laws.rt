@@ -13,13 +13,15 @@ ghost use Rattle.copy_state.specs.declared.meta.FileMetaData.{FileMetaData};
 ghost use Rattle.copy_state.specs.States.{meta_names};
 ghost use Rattle.copy_job.specs.declared.fault.JobFault.{JobFault};
 ghost use Rattle.copy_job.specs.Jobs.{Job, reads_under};
-ghost use Rattle.replica_state.specs.Given.{IsLasting, HasMeta, AreReaders, IsSettledOn};
-ghost use Rattle.replica_state.specs.Jobs.{stopped_job, IsStartingFault};
-ghost use Rattle.replica_state.specs.declared.job.PointJob.{PointJob};
-ghost use Rattle.replica_state.specs.declared.parts.ReplicaParts.{ReplicaParts};
-ghost use Rattle.replica_state.specs.Merges.{copy_at, copies_with, copies_without};
-ghost use Rattle.replica_state.specs.Replica.{IsWholeReplica};
-ghost use Rattle.replica_state.specs.Sources.{CopiesFrom};
+ghost use Rattle.replica_opening.specs.Known.{IsLasting, HasMeta};
+ghost use Rattle.replica_opening.specs.Readers.{AreReaders};
+ghost use Rattle.replica_opening.specs.Opened.{IsSettledOn};
+ghost use Rattle.replica_node.specs.Jobs.{stopped_job, IsStartingFault};
+ghost use Rattle.replica_node.specs.declared.job.PointJob.{PointJob};
+ghost use Rattle.replica_node.specs.declared.parts.ReplicaParts.{ReplicaParts};
+ghost use Rattle.replica_node.specs.Merges.{copy_at, copies_with, copies_without};
+ghost use Rattle.replica_node.specs.Replica.{IsWholeReplica};
+ghost use Rattle.replica_node.specs.Sources.{CopiesFrom};
 ghost use Rattle.replica_node.specs.Running.{running_job, with_job, without_job};
 
 /// A directory that restarted from an image, as after a crash, shows in each image what it shows.

@@ -15,7 +15,7 @@ use Rattle.segment_infos.specs.Files.{AreFilesOf}
 use Rattle.copy_state.specs.declared.meta.FileMetaData.{FileMetaData}
 use Rattle.copy_state.specs.declared.state.CopyState.{CopyState}
 use Rattle.copy_state.specs.States.{meta_names, IsCopyState}
-use Rattle.replica_state.specs.Replica.{IsPointState}
+use Rattle.replica_node.specs.Replica.{IsPointState}
 use Rattle.replica_tests.specs.States.{HaveShortNames}
 
 -- infos of one segment

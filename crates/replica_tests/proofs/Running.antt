@@ -5,12 +5,12 @@ use Rattle.std.specs.Option.{option_map}
 use Rattle.std.specs.List.{AllByRecursion}
 use Rattle.disk_model.specs.Disk.{Name, Content, Cells, reads_of}
 use Rattle.copy_job.specs.Jobs.{Job}
-use Rattle.replica_state.specs.declared.job.PointJob.{PointJob}
-use Rattle.replica_state.specs.declared.merges.MergeCopies.{MergeCopies}
-use Rattle.replica_state.specs.declared.parts.ReplicaParts.{ReplicaParts}
-use Rattle.replica_state.specs.Sources.{CopiesFrom, HeldReadAs, IsSourced}
-use Rattle.replica_state.specs.Starting.{IsJustOpened}
-use Rattle.replica_state.specs.Jobs.{running_point}
+use Rattle.replica_node.specs.declared.job.PointJob.{PointJob}
+use Rattle.replica_node.specs.declared.merges.MergeCopies.{MergeCopies}
+use Rattle.replica_node.specs.declared.parts.ReplicaParts.{ReplicaParts}
+use Rattle.replica_node.specs.Sources.{CopiesFrom, HeldReadAs, IsSourced}
+use Rattle.replica_node.specs.Starting.{IsJustOpened}
+use Rattle.replica_node.specs.Jobs.{running_point}
 use Rattle.replica_node.specs.Running.{running_job, with_job}
 use Rattle.replica_node.proofs.Lent.{runs_here}
 

@@ -12,9 +12,9 @@ use Rattle.seg_reader.specs.Stands.{StandsFor}
 use Rattle.searcher_switch.specs.Standing.{StandsForSome}
 use Rattle.copy_state.specs.States.{meta_names}
 use Rattle.copy_job.specs.Jobs.{Job, reads_under}
-use Rattle.replica_state.specs.declared.job.PointJob.{PointJob}
-use Rattle.replica_state.specs.Replica.{IsJobAbove}
-use Rattle.replica_state.specs.Sources.{CopiesFrom}
+use Rattle.replica_node.specs.declared.job.PointJob.{PointJob}
+use Rattle.replica_node.specs.Replica.{IsJobAbove}
+use Rattle.replica_node.specs.Sources.{CopiesFrom}
 
 -- the law of `replica_node` on a job that lacks nothing
 abbrev SourcedStands : Type 0

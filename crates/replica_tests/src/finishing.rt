@@ -3,8 +3,8 @@
 ghost use Rattle.std.specs.Prelude.{◌≡◌, ◌<◌, None, OnOk};
 ghost use Rattle.disk_model.specs.Disk.{Name, Content, reads_of};
 ghost use Rattle.replica_opening.specs.Opened.{IsSettledOn};
-ghost use Rattle.replica_state.specs.Sources.{HeldReadAs, IsSourced, KeepsSource};
-ghost use Rattle.replica_state.specs.Starting.{IsJustOpened};
+ghost use Rattle.replica_node.specs.Sources.{HeldReadAs, IsSourced, KeepsSource};
+ghost use Rattle.replica_node.specs.Starting.{IsJustOpened};
 
 use crate::files::{DOCS, crashed, opened_on};
 use crate::jobs::{begin, due_part, file_metas};

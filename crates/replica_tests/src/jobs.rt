@@ -3,8 +3,8 @@
 ghost use Rattle.std.specs.Prelude.{◌≡◌, ◌<◌, None, Some, IfOk, slice_get};
 ghost use Rattle.std.specs.Option.{option_map};
 ghost use Rattle.copy_state.specs.States.{IsCopyState, meta_in};
-ghost use Rattle.replica_state.specs.Replica.{IsPointState};
-ghost use Rattle.replica_state.specs.Sources.{KeepsSource};
+ghost use Rattle.replica_node.specs.Replica.{IsPointState};
+ghost use Rattle.replica_node.specs.Sources.{KeepsSource};
 ghost use Rattle.segment_infos.specs.declared.infos.Infos.{Infos};
 ghost use Rattle.segment_infos.specs.Infos.{CanSpell};
 ghost use Rattle.replica_tests.specs.States.{HaveShortNames, IsDuePart};

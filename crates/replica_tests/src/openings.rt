@@ -2,7 +2,7 @@
 
 ghost use Rattle.std.specs.Prelude.{IfOk, ◌<◌};
 ghost use Rattle.replica_opening.specs.Opened.{IsSettledOn};
-ghost use Rattle.replica_state.specs.Starting.{IsJustOpened};
+ghost use Rattle.replica_node.specs.Starting.{IsJustOpened};
 
 use crate::files::{DOCS, SEG, crashed, leftover, opened_on};
 use codec_frame::{FileFault, FrameFault};

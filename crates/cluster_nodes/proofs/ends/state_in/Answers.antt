@@ -1,6 +1,6 @@
 use Rattle.std.proofs.Common.{◌≡◌, ◌∙◌, sym, subst, IfOk}
 use Rattle.std.specs.Option.{option_map}
-use Rattle.primary_state.specs.States.{out_of}
+use Rattle.index_primary.specs.States.{out_of}
 use Rattle.cluster_nodes.specs.Outs.{want_at}
 use Rattle.cluster_nodes.proofs.Slots.{place_read}
 use Rattle.cluster_nodes.proofs.ends.state_in.Goals as goal

@@ -1,6 +1,6 @@
 use Rattle.std.proofs.Common.{◌∙◌, ap, sym, Some}
 use Rattle.std.specs.Option.{option_map}
-use Rattle.primary_state.specs.States.{out_of}
+use Rattle.index_primary.specs.States.{out_of}
 use Rattle.cluster_nodes.proofs.Stepping.{alters_by}
 use Rattle.cluster_nodes.proofs.EndedJobs.{no_state, nothing_back, state_out, state_back}
 use Rattle.cluster_nodes.proofs.ends.take_back.Goals as goal

@@ -1,9 +1,9 @@
 use Rattle.std.proofs.Common.{◌≡◌, true, ap, arith, subst, sym, Option}
 use Rattle.std.specs.Prelude.{IfSome}
 use Rattle.std.specs.Option.{option_map}
-use Rattle.primary_state.specs.declared.states.Out.{Out}
-use Rattle.primary_state.specs.States.{out_of, is_out}
-use Rattle.replica_state.specs.declared.parts.ReplicaParts.{ReplicaParts}
+use Rattle.index_primary.specs.declared.states.Out.{Out}
+use Rattle.index_primary.specs.States.{out_of, is_out}
+use Rattle.replica_node.specs.declared.parts.ReplicaParts.{ReplicaParts}
 use Rattle.cluster_nodes.specs.Outs.{want_of}
 use Rattle.cluster_nodes.specs.Ends.{TakesBack}
 use Rattle.cluster_nodes.proofs.Stepping.{out_pushed, begins, alters_by, none_by, job_noted, job_by}

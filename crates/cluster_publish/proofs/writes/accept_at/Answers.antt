@@ -11,7 +11,7 @@ use Rattle.cluster_state.specs.Run.{Run}
 use Rattle.cluster_state.proofs.MergingPaths.{third_at, put_shown}
 use Rattle.cluster_state.proofs.MergingStill.{primary_keeps}
 use Rattle.cluster_nodes.specs.declared.nodes.Node.TheVariants.{Primary}
-use Rattle.primary_state.specs.declared.parts.PrimaryParts.{PrimaryParts}
+use Rattle.index_primary.specs.declared.parts.PrimaryParts.{PrimaryParts}
 use Rattle.cluster_state.proofs.RestKept.{put_keeps, primary_tells}
 use Rattle.cluster_publish.proofs.writes.accept_at.Goals as goal
 

@@ -1,7 +1,7 @@
 use Rattle.std.proofs.Common.{ap, arith, ◌≡◌, ◌≤◌, ◌+◌, ◌∙◌, sym, refl, subst, Some, Option, List, ℕ, map, length, true, false, true≢false}
 use Rattle.history_rules.specs.declared.entry.Event.TheVariants.{Published, Refused}
 use Rattle.history_rules.specs.declared.cause.Cause.TheVariants.{DiskFault}
-use Rattle.primary_state.specs.declared.parts.PrimaryParts.{PrimaryParts}
+use Rattle.index_primary.specs.declared.parts.PrimaryParts.{PrimaryParts}
 use Rattle.cluster_state.proofs.Frames.{slot_at, slot_kept, there_at, rule_at}
 use Rattle.cluster_publish.proofs.PublishPaths.{primary_stands, work_at, next_fits, next_is, published_rule, end_path, ends_now}
 use Rattle.cluster_publish.proofs.PublishFiles.{end_files}

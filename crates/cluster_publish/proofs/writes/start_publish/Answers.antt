@@ -1,6 +1,6 @@
 use Rattle.std.proofs.Common.{false, ◌∙◌, refl, ◌≡◌, [], sym, ap, Some}
 use Rattle.history_rules.specs.declared.entry.Event.TheVariants.{Publishing}
-use Rattle.primary_state.specs.declared.parts.PublishFault.TheVariants.{NamesSpent, TooManySegments}
+use Rattle.index_primary.specs.declared.parts.PublishFault.TheVariants.{NamesSpent, TooManySegments}
 use Rattle.cluster_state.proofs.Frames.{slot_at, slot_kept, there_at, rule_at}
 use Rattle.cluster_publish.proofs.PublishPaths.{ok_at, err_at, on_err, primary_stands, none_flies, not_idle, not_spent, is_full_at, told_full, told_few, hands_out, asked_task, drawn_segs, may_start, asked_some, start_path, back_path}
 use Rattle.cluster_state.proofs.Turning.{log_is, nodes_is}
@@ -12,8 +12,8 @@ use Rattle.cluster_state.proofs.MergingPaths.{third_at, put_shown, put_same}
 use Rattle.cluster_state.proofs.MergingStill.{primary_keeps, stand_kept, all_keep}
 use Rattle.cluster_nodes.specs.declared.nodes.Node.TheVariants.{Primary}
 use Rattle.history_book.specs.declared.inner.Inner.TheVariants.{FlushOut}
-use Rattle.primary_state.specs.declared.parts.PrimaryParts.{PrimaryParts}
-use Rattle.primary_state.specs.Cut.{has_put}
+use Rattle.index_primary.specs.declared.parts.PrimaryParts.{PrimaryParts}
+use Rattle.index_primary.specs.Cut.{has_put}
 use Rattle.cluster_state.proofs.RestKept.{put_keeps, primary_tells}
 use Rattle.cluster_publish.proofs.writes.start_publish.Goals as goal
 

@@ -1,7 +1,7 @@
 use Rattle.std.proofs.Common.{ap, sym, subst, arith}
 use Rattle.copy_state.specs.declared.state.CopyState.{CopyState}
-use Rattle.replica_state.specs.declared.parts.ReplicaParts.{ReplicaParts}
-use Rattle.replica_state.specs.Replica.{MayLaunch}
+use Rattle.replica_node.specs.declared.parts.ReplicaParts.{ReplicaParts}
+use Rattle.replica_node.specs.Replica.{MayLaunch}
 use Rattle.node_merges.proofs.CopySteps.{may_launch, sends}
 use Rattle.node_merges.proofs.copies.send.Goals as goal
 

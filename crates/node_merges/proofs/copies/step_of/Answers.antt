@@ -1,5 +1,5 @@
 use Rattle.std.proofs.Common.{◌∙◌, sym}
-use Rattle.replica_state.specs.Jobs.{running_point}
+use Rattle.replica_node.specs.Jobs.{running_point}
 use Rattle.node_merges.proofs.CopySteps.{wants, lacks_one, lent_some, no_job}
 use Rattle.node_merges.proofs.copies.step_of.Goals as goal
 

@@ -1,6 +1,6 @@
 use Rattle.std.proofs.Common.{Err, ap, sym}
 use Rattle.segment_infos.specs.declared.infos.Infos.{Infos}
-use Rattle.primary_state.specs.declared.parts.PrimaryParts.{PrimaryParts}
+use Rattle.index_primary.specs.declared.parts.PrimaryParts.{PrimaryParts}
 use Rattle.primary_tests.proofs.Unmade.{filled_at, seen_cut}
 use Rattle.primary_tests.proofs.calls.merge_cut.Goals as goal
 

@@ -3,7 +3,7 @@ use Rattle.file_deleter.specs.Holdings.{Holdings}
 use Rattle.commit_steps.specs.declared.stage.CommitBook.{CommitBook}
 use Rattle.searcher_switch.specs.declared.open.SearchPoint.{SearchPoint}
 use Rattle.seg_reader.specs.Shown.{Shown}
-use Rattle.primary_state.proofs.Callers.{empty_node, empty_held}
+use Rattle.index_primary.proofs.Callers.{empty_node, empty_held}
 use Rattle.primary_tests.proofs.Seeing.{no_names, empty_spelled}
 use Rattle.primary_tests.proofs.calls.start.Goals as goal
 

@@ -1,4 +1,4 @@
-use Rattle.replica_state.specs.Replica.{AreStanding}
+use Rattle.replica_node.specs.Replica.{AreStanding}
 use Rattle.recovery_laws.specs.Stops.{IsStillInFlight}
 use Rattle.recovery_laws.proofs.stops.carry.Given as goal
 

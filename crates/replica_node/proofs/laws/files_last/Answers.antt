@@ -1,4 +1,4 @@
-use Rattle.replica_state.proofs.Lasting.{file_lasts}
+use Rattle.replica_node.proofs.Lasting.{file_lasts}
 use Rattle.replica_node.proofs.laws.files_last.Goals as goal
 
 pub returns : goal.returns

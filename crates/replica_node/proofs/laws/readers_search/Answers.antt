@@ -1,4 +1,4 @@
-use Rattle.replica_state.proofs.Documents.{readers_search}
+use Rattle.replica_node.proofs.Documents.{readers_search}
 use Rattle.replica_node.proofs.laws.readers_search.Goals as goal
 
 pub returns : goal.returns

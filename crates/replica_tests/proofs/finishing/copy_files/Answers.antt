@@ -1,6 +1,6 @@
 use Rattle.std.proofs.Common.{subst, sym}
 use Rattle.disk_model.specs.Disk.{Cells, reads_of}
-use Rattle.replica_state.specs.Sources.{IsSourced}
+use Rattle.replica_node.specs.Sources.{IsSourced}
 use Rattle.replica_tests.proofs.Running.{just_sourced}
 use Rattle.replica_tests.proofs.finishing.copy_files.Goals as goal
 

@@ -2,8 +2,8 @@ use Rattle.std.proofs.Common.{sym, subst}
 use Rattle.commit_steps.specs.Book.{shown_by}
 use Rattle.searcher_switch.specs.Standing.{ImagesStand}
 use Rattle.searcher_switch.proofs.Standing.{images_stand}
-use Rattle.replica_state.specs.declared.parts.ReplicaParts.{ReplicaParts}
-use Rattle.replica_state.specs.Replica.{AreStanding}
+use Rattle.replica_node.specs.declared.parts.ReplicaParts.{ReplicaParts}
+use Rattle.replica_node.specs.Replica.{AreStanding}
 use Rattle.replica_node.proofs.replica.Replica.images.Goals as goal
 
 pub returns : goal.returns

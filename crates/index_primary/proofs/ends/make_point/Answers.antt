@@ -1,9 +1,0 @@
-use Rattle.searcher_switch.proofs.Appearing.{only_then_none}
-use Rattle.primary_state.specs.Held.{IsOwnFile}
-use Rattle.primary_state.specs.Primary.{loose_of}
-use Rattle.index_primary.proofs.ends.make_point.Goals as goal
-
-pub returns-in-Ok-clause-appears : goal.returns-in-Ok-clause-appears
-returns-in-Ok-clause-appears g c =
-    let p = c.args.parts.now in
-    only_then_none (IsOwnFile p.infos (loose_of p)) (g.D.Dir.cells p.dir) (g.D.Dir.cells c.write.new.parts.dir) (g.D.Dir.cells c.place.new.parts.dir) c.in-Ok.ensures.appears c.place.ensures.appears

@@ -1,0 +1,69 @@
+//! Commits of a primary.
+
+ghost use Rattle.std.specs.Prelude.{◌≡◌, ◌<◌, ◌≤◌, ◌^◌, None, true, OnOk, OnErr, IfOk, IfSome, IsSome, IsErrOf, Ok, Err};
+ghost use Rattle.nrt_base.specs.Causes.{Rose};
+ghost use Rattle.commit_steps.specs.Commits.{ImagesHave};
+ghost use Rattle.commit_steps.specs.Book.{commit_of, book_after, is_last_step, HasBegun};
+ghost use Rattle.searcher_switch.specs.Appearing.{AppearsOnly, IsNameInFlight};
+ghost use Rattle.index_primary.specs.Primary.{IsPrimary, KeepsHeldBytes};
+
+use crate::primary::Primary;
+use commit_steps::{CommitBook, CommitFault};
+use disk_model::Dir;
+use nrt_base::NoMemory;
+use std::alloc::Global;
+
+impl<D: Dir> Primary<D> {
+    /// The commits: the last one, and the one in flight.
+    pub fn commits(&self) -> &CommitBook
+        ensures { result.now ≡ self.now.commits }
+    {
+        &self.parts.commits
+    }
+
+    /// Begins a commit of the point that is searched. The directory is not called.
+    pub fn commit_begin(&mut self, alloc: Global) -> Result<(), NoMemory>
+        requires none { self.old.commits.stage ≡ None }
+        requires below { self.old.commits.next < 2 ^ 62 }
+        ensures begun { OnOk result (HasBegun self.old.point_infos self.old.commits self.new.commits) }
+        ensures err { OnErr result ((self.new.commits ≡ self.old.commits)
+            × (self.new.files ≡ self.old.files)) }
+        ensures others { self.new
+            ≡ record self.old { files = self.new.files; commits = self.new.commits } }
+        ensures stays { KeepsHeldBytes D.cells self.old self.new }
+        ensures whole { IsPrimary D.cells self.new }
+    {
+        self.parts.commits.begin(
+            alloc,
+            &self.parts.point_infos,
+            &mut self.parts.files,
+            &self.parts.dir,
+        )
+    }
+
+    /// Makes the next call of the directory for the commit in flight, and answers whether the commit is done.
+    pub fn commit_step(&mut self, alloc: Global) -> Result<bool, CommitFault>
+        requires in_flight { IsSome self.old.commits.stage }
+        ensures ok { OnOk result (self.new.commits ≡ book_after self.old.commits) }
+        ensures done { IfOk result (λ done. done ≡ is_last_step self.old.commits.stage) }
+        ensures made { result ≡ Ok true → IfSome self.old.commits.stage (λ stage.
+            ImagesHave (D.cells self.new.dir) (commit_of stage)) }
+        ensures failed { IsErrOf result CommitFault.Failed
+            → Rose (D.faults self.old.dir) (D.faults self.new.dir) }
+        ensures err { OnErr result (self.new.commits ≡ self.old.commits) }
+        ensures others { self.new ≡ record self.old {
+          dir = self.new.dir;
+          files = self.new.files;
+          commits = self.new.commits;
+        } }
+        ensures stays { KeepsHeldBytes D.cells self.old self.new }
+        ensures appears { AppearsOnly (IsNameInFlight self.old.commits.stage)
+            (D.cells self.old.dir) (D.cells self.new.dir) }
+        ensures later { D.faults self.old.dir ≤ D.faults self.new.dir }
+        ensures whole { IsPrimary D.cells self.new }
+    {
+        self.parts
+            .commits
+            .step(alloc, &mut self.parts.files, &mut self.parts.dir)
+    }
+}

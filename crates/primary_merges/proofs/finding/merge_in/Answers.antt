@@ -1,5 +1,0 @@
-use Rattle.primary_merges.proofs.Making.{found_at}
-use Rattle.primary_merges.proofs.finding.merge_in.Goals as goal
-
-pub returns : goal.returns
-returns c = found_at c.args.seg.0 c.args.merges.now c.place_of-at.result c.index-merges-at.result c.requires c.place_of-at.ensures c.index-merges-at.is

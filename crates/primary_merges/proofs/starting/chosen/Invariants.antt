@@ -1,6 +1,0 @@
-use Rattle.std.proofs.Common.{◌≡◌, take}
-use Rattle.primary_merges.specs.StartCalls.{records_in}
-use Rattle.primary_merges.proofs.starting.chosen.Given as goal
-
-abbrev pub invariant-loop-entry : goal.invariant-loop-entry
-invariant-loop-entry l = l.found ≡ records_in l.inputs (take l.entry-index l.records)

@@ -1,3 +1,0 @@
-pub mod CutOverCalls
-pub mod MergeCalls
-pub mod StartCalls

@@ -1,4 +1,0 @@
-pub mod Advancing
-pub mod Overlapping
-pub mod Parting
-pub mod Settling

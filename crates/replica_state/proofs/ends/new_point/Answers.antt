@@ -1,1 +1,0 @@
-use Rattle.replica_state.proofs.ends.new_point.Goals as goal
