@@ -1,3 +1,4 @@
-mod WalkLemmas
+mod KnownLaws
+pub mod WalkLemmas
 mod HitLemmas
 mod ListingLemmas

@@ -26,10 +26,9 @@ use Rattle.documents.proofs.DocumentLemmas.{documents_ascend, documents_after_la
 pub is_eq-line_cmp : (a b : At) → is_eq (line_cmp (a.lane.0, a.line.0) (b.lane.0, b.line.0)) ≡ same_at a b
 is_eq-line_cmp a b = grind (arith, nat_tests)
 
-pub unwrap_or-if : (b : Bool) (docs : List Doc) (old : Option (List Doc))
-    → unwrap_or (if b then Some docs else old) [] ≡ (if b then docs else unwrap_or old [])
-unwrap_or-if true docs old = refl
-unwrap_or-if false docs old = refl
+pub unwrap_or-if : {X : Type 0} (b : Bool) (x none : X) (old : Option X) → unwrap_or (if b then Some x else old) none ≡ (if b then x else unwrap_or old none)
+unwrap_or-if true x none old = refl
+unwrap_or-if false x none old = refl
 
 -- the documents of a version ascend by key
 pub made_ascend : (past : Past) (walk : Walk) → KnowsPast past walk → (v : ℕ) → IsAscending (made_at walk.made v)

@@ -3,10 +3,12 @@
 ghost use Rattle.std.specs.Prelude.{◌≡◌, ◌<◌, ◌+◌, ◌^◌, ◌∷◌, ◌↔◌, reverse, length, IfOk, IsTrue};
 ghost use Rattle.history_rules.specs.Nodes.{accepted_count};
 ghost use Rattle.history_facts.specs.Generations.{ShowsGeneration, ShowsDrawn};
+ghost use Rattle.point_history.specs.Known.{IsKnown};
 ghost use Rattle.history_rules.specs.Legal.{KeepsRule, rule_number, IsVerdict};
 
 use crate::answers::may_answer;
 use crate::fault_rules::may_fault;
+use crate::knowing::KnownPast;
 use crate::listings::may_list_files;
 use crate::refusals::may_refuse_line;
 use crate::rules::{
@@ -54,10 +56,12 @@ fn keeps(
     alloc: Global,
     nodes: u8,
     before: &[Entry],
+    known: &KnownPast,
     generation: &Generation,
     drawn: &Drawn,
     entry: &Entry,
 ) -> Result<bool, NoMemory>
+    requires known { IsKnown (reverse before.now) known.now }
     requires shown { ShowsGeneration (reverse before.now) generation.now }
     requires drawn { ShowsDrawn (reverse before.now) drawn.now }
     requires few { length before.now + 1 < 2 ^ 64 }
@@ -69,7 +73,7 @@ fn keeps(
 {
     let at = entry.at;
     Ok(match &entry.event {
-        Event::Accepted { seq, .. } => may_accept(before, at, *seq),
+        Event::Accepted { seq, .. } => may_accept(known, before, at, *seq),
         Event::Publishing => may_start_publish(before, generation, at),
         Event::Published {
             generation: number,
@@ -113,21 +117,23 @@ fn keeps(
 
 /// Whether a history is legal, and else which entry is the first that breaks the rule of its kind.
 ///
-/// It reads the entries before each entry anew, a few times: its time grows as the square of their number.
+/// An accepted operation is looked up in what is known of the entries before it. For each other entry these are read anew, a few times.
 pub fn legal(alloc: Global, h: &History) -> Result<Verdict, NoMemory>
     ensures { IfOk result (λ verdict. IsVerdict h.now verdict) }
 {
     let entries = h.entries.as_slice();
+    let mut known = KnownPast::new(alloc);
     let mut generation = Generation::first();
     let mut drawn = Drawn::new(alloc);
     for (at, entry) in entries.iter().enumerate() {
         let before = &entries[..at];
-        if !keeps(alloc, h.nodes, before, &generation, &drawn, entry)? {
+        if !keeps(alloc, h.nodes, before, &known, &generation, &drawn, entry)? {
             return Ok(Verdict::Broken {
                 at,
                 rule: rule_number(&entry.event),
             });
         }
+        known = known.after(before, entry)?;
         generation = generation.after(before, entry);
         note_drawn(&mut drawn, &generation)?;
     }

@@ -4,6 +4,7 @@
 mod answers;
 mod counting;
 mod fault_rules;
+mod knowing;
 mod legality;
 mod listings;
 mod published;
@@ -15,5 +16,6 @@ pub use documents::{
     Answer, Hit, Op, Query, Texts, apply, change, has_word, listed, matches, scan, words,
 };
 pub use history_rules::{Cause, Entry, Event, FaultKind, FaultPlan, History, Point, Verdict, laws};
+pub use knowing::{KnownLine, KnownLines, KnownPast, is_fault};
 pub use legality::legal;
 pub use published::points;

@@ -6,26 +6,29 @@ ghost use Rattle.history_rules.specs.Lines.{start_entry, before_start, has_just_
 ghost use Rattle.history_rules.specs.Commits.{starts_commit};
 ghost use Rattle.history_rules.specs.Faults.{has_met_fault, has_file_fault};
 ghost use Rattle.history_facts.specs.Generations.{ShowsGeneration};
+ghost use Rattle.point_history.specs.Known.{IsKnown};
 ghost use Rattle.history_rules.specs.Rules.{MayAccept, MayStartPublish, MayPublish, MayStartCopy, MaySwitch, MayFinishCopy, MayStartSettle, MaySettle, MayOpen, MayAsk, MayClose, MayStartCommit, MayCommit, MayCrash, MayReopen, MayPromote, MayStartMerge, MayDrain, StartedCopy, IsLineWhole};
 
+use crate::knowing::KnownPast;
 use history_facts::{
-    Generation, accepted_count, before_start, commit_in_flight, copy_in_flight, drained_count,
-    has_file_fault, has_just_switched, has_met_fault, has_ticket, highest_switched, is_answered,
-    is_free_for, is_made_in_generation, is_node, is_passed, is_reopenable, is_replica, is_running,
-    is_stuck, is_ticket_at, is_ticket_of, merge_count, newest_version, node_survives, primary_of,
+    Generation, before_start, commit_in_flight, copy_in_flight, drained_count, has_file_fault,
+    has_just_switched, has_met_fault, has_ticket, highest_switched, is_free_for,
+    is_made_in_generation, is_node, is_passed, is_reopenable, is_replica, is_running, is_stuck,
+    is_ticket_at, is_ticket_of, merge_count, newest_version, node_survives, primary_of,
     publish_in_flight, source_survives, start_entry, version_of, was_searched_since,
 };
 use history_rules::{Entry, Event};
 use nrt_base::{At, Gen, NodeNo, SegNo, TicketNo, Version};
 
-pub(crate) fn may_accept(entries: &[Entry], at: At, seq: u32) -> bool
+pub(crate) fn may_accept(known: &KnownPast, entries: &[Entry], at: At, seq: u32) -> bool
+    requires known { IsKnown (reverse entries.now) known.now }
     ensures rule { IsTrue result ↔ MayAccept (reverse entries.now) at seq }
     ensures few { IsTrue result → accepted_count (reverse entries.now) + 1 < 2 ^ 32 }
 {
-    primary_of(entries).node.is_some()
+    known.primary.is_some()
         && seq != 0
-        && seq as usize - 1 == accepted_count(entries)
-        && (!has_met_fault(at, entries) || is_answered(at, entries))
+        && seq as usize - 1 == known.accepted
+        && (!known.has_met_fault(at, entries) || known.is_answered(at, entries))
 }
 
 pub(crate) fn may_start_publish(entries: &[Entry], generation: &Generation, at: At) -> bool

@@ -1,6 +1,10 @@
+mod CutLaws
+mod OneLaws
 mod PlaceLaws
 mod ReadingLaws
 mod ReplayLaws
 mod ServingLaws
 mod SourceLaws
 mod WalkLaws
+mod SpotLaws
+mod TurnLaws

@@ -1,5 +1,6 @@
 -- Entries that fit: what they are asked for by, and that one text has one such entry.
-use Rattle.std.proofs.Common.{◌≡◌, ℕ, Bool, true, false, ◌||◌, List, [], ◌∷◌, map, Option, Some, None, Result, Ok, Err, IfOk, refl, sym, ap, subst, ◌∙◌, ◌↔◌}
+use Rattle.std.proofs.Common.{◌≡◌, ℕ, Bool, true, false, ◌||◌, List, [], ◌∷◌, Option, Some, None, Result, Ok, Err, IfOk, refl, sym, ap, subst, ◌∙◌, ◌↔◌}
+use Rattle.std.specs.Option.{is_some}
 use Rattle.std.proofs.lemmas.Bool.{false≢true}
 use Rattle.std.proofs.lemmas.Option.{none-some}
 use Rattle.nrt_base.specs.declared.numbers.At.{At}
@@ -27,10 +28,11 @@ use Rattle.script_serving.specs.Replays.{due}
 use Rattle.script_serving.specs.Serves.{Begins, First, Suits, SuitsFault, FitsTurn, FitsReplay, Fits, is_merge_fault}
 use Rattle.serving_laws.proofs.Unprinted.{OpOf, QueryOf, MostOf, OfCommand, Unprinted, fits_unprinted, one_place}
 use Rattle.report_judge.specs.Judgements.{FitsNext}
-use Rattle.report_judge.specs.Places.{place_of, earlier_places, line_numbered, place_told, command_told}
-use Rattle.report_judge.specs.Serving.{is_fault, is_merge}
+use Rattle.report_judge.specs.Places.{line_numbered, place_told, command_told}
+use Rattle.point_history.specs.Known.{is_fault}
+use Rattle.report_judge.specs.Serving.{is_merge}
 use Rattle.report_judge.specs.Walks.{IsEntryTold}
-use Rattle.report_judge.proofs.PlaceLaws.{earlier_is, numbered_is, none_numbered, stands_there, lane_command}
+use Rattle.report_judge.proofs.PlaceLaws.{numbered_is, none_numbered, stands_there, lane_command}
 
 -- ---- events
 
@@ -61,28 +63,33 @@ suits_other lines past at (Merge factor) other = absurd (false≢true (sym other
 suits_other lines past at command other = (λ h. h, λ h. h)
 
 -- a fault of another line fits before the reply and in its turn
-pub fault_in_turn : (lines : List Line) (places : List At) (past : Past) (at : At) (command : LineCommand) → places ≡ map place_of lines → is_merge command ≡ false → is_answered at past ≡ false
-    → (early : Bool) → early ≡ earlier_places places at past → (early ≡ true) ↔ SuitsFault command lines at past
-fault_in_turn lines places past at command same other open_line early is =
-    let turn : early ≡ earlier_answered lines at past = is ∙ ap (λ (ps : List At). earlier_places ps at past) same ∙ earlier_is lines at past in
+pub fault_in_turn : (lines : List Line) (past : Past) (at : At) (command : LineCommand) → is_merge command ≡ false → is_answered at past ≡ false
+    → (turn : Bool) → turn ≡ earlier_answered lines at past → (turn ≡ true) ↔ SuitsFault command lines at past
+fault_in_turn lines past at command other open_line turn is =
     let suits = suits_other lines past at command other in
-    (λ h. suits.1 (open_line, sym turn ∙ h), λ h. turn ∙ (suits.0 h).1)
+    (λ h. suits.1 (open_line, sym is ∙ h), λ h. is ∙ (suits.0 h).1)
+
+-- a fault of another line does not fit behind the reply
+pub fault_is_late : (lines : List Line) (past : Past) (at : At) (command : LineCommand) → is_merge command ≡ false → is_answered at past ≡ true → SuitsFault command lines at past → ⊥
+fault_is_late lines past at command other closed fits = false≢true (sym ((suits_other lines past at command other).0 fits).0 ∙ closed)
 
 -- an entry out of its turn does not fit
-pub not_in_turn : (lines : List Line) (places : List At) (past : Past) (at : At) (command : LineCommand) (e : Event) → places ≡ map place_of lines → is_fault e ≡ false → earlier_places places at past ≡ false
+pub not_in_turn : (lines : List Line) (past : Past) (at : At) (command : LineCommand) (e : Event) → is_fault e ≡ false → earlier_answered lines at past ≡ false
     → FitsTurn lines past at (Some command) e → ⊥
-not_in_turn lines places past at command e same other late fits =
-    let early : earlier_answered lines at past ≡ true = ((turn_suits lines past at command e other).0 fits).1 in
-    false≢true (sym late ∙ (ap (λ (ps : List At). earlier_places ps at past) same ∙ (earlier_is lines at past ∙ early)))
+not_in_turn lines past at command e other late fits = false≢true (sym late ∙ ((turn_suits lines past at command e other).0 fits).1)
 
 -- an entry in its turn fits where it suits
-pub suits_in_turn : {E : Type 0} (lines : List Line) (places : List At) (past : Past) (at : At) (command : LineCommand) (e : Event) → places ≡ map place_of lines → is_fault e ≡ false → earlier_places places at past ≡ true
+pub suits_in_turn : {E : Type 0} (lines : List Line) (past : Past) (at : At) (command : LineCommand) (e : Event) → is_fault e ≡ false → earlier_answered lines at past ≡ true
     → (r : Result Bool E) → IfOk r (λ is. (is ≡ true) ↔ Suits command at past (last_of_line at past) e) → IfOk r (λ fits. (fits ≡ true) ↔ FitsTurn lines past at (Some command) e)
-suits_in_turn lines places past at command e same other early (Ok is) h =
+suits_in_turn lines past at command e other early (Ok is) h =
     let turn = turn_suits lines past at command e other in
-    let all : earlier_answered lines at past ≡ true = sym (ap (λ (ps : List At). earlier_places ps at past) same ∙ earlier_is lines at past) ∙ early in
-    (λ k. turn.1 (h.0 k, all), λ k. h.1 (turn.0 k).0)
-suits_in_turn lines places past at command e same other early (Err fault) h = h
+    (λ k. turn.1 (h.0 k, early), λ k. h.1 (turn.0 k).0)
+suits_in_turn lines past at command e other early (Err fault) h = h
+
+-- a line that has not begun has no newest entry
+pub nothing_newest : (last : Option Event) → false ≡ is_some last → None ≡ last
+nothing_newest None none = refl
+nothing_newest (Some e) none = absurd (false≢true none)
 
 pub merge_fault_is : (command : LineCommand) (e : Event) → is_merge command ≡ true → is_fault e ≡ true → is_merge_fault (Some command) e ≡ true
 merge_fault_is (Merge factor) (Met n kind) is fault = refl

@@ -20,7 +20,7 @@ use Rattle.script_serving.specs.Form.{IsInForm}
 use Rattle.script_serving.specs.Lines.{lines_of, all_answered}
 use Rattle.script_serving.specs.Replays.{due}
 use Rattle.script_serving.specs.Serves.{ServesLanes, ServesPhases, Serves}
-use Rattle.report_judge.specs.Judgements.{GoesWell, FitsNext, GoesWellTo, BeginsWithEntry, IsLegalReport, IsUnread, IsUnserved, IsBroken, IsMissing, IsUnanswered, newest_at}
+use Rattle.report_judge.specs.Judgements.{AllNarrow, GoesWell, FitsNext, GoesWellTo, BeginsWithEntry, IsLegalReport, IsUnread, IsUnserved, IsBroken, IsMissing, IsUnanswered, newest_at}
 use Rattle.report_judge.specs.Places.{place_of, unanswered_place}
 use Rattle.report_judge.proofs.PlaceLaws.{unanswered_is, none_unanswered}
 use Rattle.report_judge.specs.Readings.{IsEntryOf, IsEntryRead}
@@ -58,15 +58,16 @@ flat-append [] ys = refl
 flat-append (x ∷ xs) ys = ap (λ (t : List ℕ). text_of_entry x ++ t) (flat-append xs ys) ∙ sym (append_assoc (text_of_entry x) (flat_map text_of_entry xs) (flat_map text_of_entry ys))
 
 -- one more entry that fits serves too
-pub serves_next : (script : Script) (report : List ℕ) (past : Past) (text line rest : List ℕ) (e : Entry) → ServesTo script report past text → line ≡ first_line text → rest ≡ behind_line text → text_of_entry e ≡ line → FitsNext script past e
+pub serves_next : (script : Script) (report : List ℕ) (past : Past) (text line rest : List ℕ) (e : Entry) → ServesTo script report past text → line ≡ first_line text → rest ≡ behind_line text → text_of_entry e ≡ line → EntryIsNarrow e → FitsNext script past e
     → ServesTo script report (e ∷ past) rest
-serves_next script report past text line rest e serves cut behind same fits =
+serves_next script report past text line rest e serves cut behind same narrow fits =
     let joined : text ≡ text_of_entry e ++ rest = sym (lines_joined text) ∙ ap (λ (t : List ℕ). t ++ behind_line text) (sym (same ∙ cut)) ∙ ap (λ (t : List ℕ). text_of_entry e ++ t) (sym behind) in
     let front : flat_map text_of_entry (reverse (e ∷ past)) ≡ flat_map text_of_entry (reverse past) ++ text_of_entry e =
     ap (flat_map text_of_entry) (reverse-append (e ∷ []) past) ∙ flat-append (reverse past) (e ∷ []) ∙ ap (λ (t : List ℕ). flat_map text_of_entry (reverse past) ++ t) (append-nil (text_of_entry e)) in
     record {
       lanes = (fits.lane, serves.lanes);
       phases = (fits.phase, serves.phases);
+      narrow = (narrow, serves.narrow);
       text =
           serves.text
           ∙ ap (λ (t : List ℕ). flat_map text_of_entry (reverse past) ++ t) joined
@@ -89,7 +90,7 @@ some_left text rest low none = let z : length text ≡ 0 = ap length none in ome
 
 -- before any line
 pub none_read_yet : (script : Script) (report : List ℕ) → ServesTo script report [] report
-none_read_yet script report = record { lanes = tt; phases = tt; text = refl }
+none_read_yet script report = record { lanes = tt; phases = tt; narrow = tt; text = refl }
 
 -- one more entry
 pub reversed_push : (P : Past → Type 0) (items all : List Entry) (e : Entry) → all ≡ items ++ e ∷ [] → P (e ∷ reverse items) → P (reverse all)
@@ -152,9 +153,13 @@ cut_at xs i x there =
       count = length-take-le i xs (omega (arith, low));
     }
 
-phases_behind : (script : Script) (newer past : Past) → ServesPhases (lines_of script) script.phases (newer ++ past) → ServesPhases (lines_of script) script.phases past
+pub phases_behind : (script : Script) (newer past : Past) → ServesPhases (lines_of script) script.phases (newer ++ past) → ServesPhases (lines_of script) script.phases past
 phases_behind script [] past h = h
 phases_behind script (e ∷ newer) past h = phases_behind script newer past h.1
+
+pub narrow_behind : (newer past : Past) → AllNarrow (newer ++ past) → AllNarrow past
+narrow_behind [] past h = h
+narrow_behind (e ∷ newer) past h = narrow_behind newer past h.1
 
 -- the past at a place is behind what is newer
 turned : (xs front back : List Entry) (x : Entry) → xs ≡ front ++ x ∷ back → reverse xs ≡ reverse back ++ x ∷ reverse front
@@ -177,7 +182,7 @@ module _ (script : Script) (report : List ℕ) (h : History) (stop : WalkEnd) (w
   }
 
   goes : IsLegal h → GoesWellTo script report past walk.rest
-  goes legal = record { well = well legal; text = walk.serves.text }
+  goes legal = record { well = well legal; narrow = walk.serves.narrow; text = walk.serves.text }
 
   abbrev Ends : WalkEnd → Type 0
   Ends s = IsStop script past walk.rest s
@@ -200,7 +205,7 @@ module _ (script : Script) (report : List ℕ) (h : History) (stop : WalkEnd) (w
   pub legal_whole : stop ≡ Whole → IsLegal h → IsLegalReport script report h
   legal_whole is legal =
       let end = subst Ends is walk.stop in
-      record { legal = legal; serves = serving end.1; text = whole_text end.0 }
+      record { legal = legal; serves = serving end.1; narrow = walk.serves.narrow; text = whole_text end.0 }
 
   pub legal_short : (line : _) → stop ≡ Short line → IsLegal h → IsUnanswered script report line.0
   legal_short line is legal =
@@ -244,6 +249,7 @@ module _ (script : Script) (report : List ℕ) (h : History) (stop : WalkEnd) (w
             lanes = lanes.1;
             phases = phases.1;
           };
+          narrow = (narrow_behind (reverse cut.back) (breaks.entry ∷ before) (subst AllNarrow around walk.serves.narrow)).1;
           text = text_there cut.back breaks.entry front cut.whole;
         };
         place = ap (λ (n : ℕ). n + 1) (sym (length-reverse front ∙ cut.count));

@@ -1,6 +1,6 @@
 -- What the judge answers of a report: that it is the text of a legal history that serves its script, or the first line with which no
 -- such history goes on, and why.
-use Rattle.std.specs.Prelude.{ℕ, ◌≡◌, ◌≢◌, ◌||◌, ◌+◌, ◌⊎◌, if◌then◌else◌, List, [], ◌∷◌, ◌++◌, reverse, length, true, Option, Some, None}
+use Rattle.std.specs.Prelude.{ℕ, ◌≡◌, ◌≢◌, ◌||◌, ◌+◌, ◌⊎◌, if◌then◌else◌, List, [], ◌∷◌, ◌++◌, reverse, length, true, ⊤, Option, Some, None}
 use Rattle.std.specs.List.{flat_map}
 use Rattle.nrt_base.specs.declared.numbers.At.{At}
 use Rattle.history_rules.specs.declared.entry.Entry.{Entry}
@@ -29,9 +29,15 @@ pub record FitsNext (script : Script) (past : Past) (e : Entry) : Type 0 where
   pub lane : let lines = lines_of_lane e.at.lane.0 script in Fits (due script.log past) lines past e.at (command_at lines e.at) e.event
   pub phase : (is_merge_fault (command_at (lines_of script) e.at) e.event || earlier_phases_answered script.phases e.at past) ≡ true
 
+-- the numbers of each entry have at most the bits that the program has for their kinds
+abbrev pub AllNarrow : List Entry → Type 0
+AllNarrow [] = ⊤
+AllNarrow (e ∷ entries) = EntryIsNarrow e × AllNarrow entries
+
 -- the report begins with the text of these entries, which go well, and the rest is behind it
 pub record GoesWellTo (script : Script) (report : List ℕ) (past : Past) (rest : List ℕ) : Type 0 where
   pub well : GoesWell script past
+  pub narrow : AllNarrow past
   pub text : report ≡ flat_map text_of_entry (reverse past) ++ rest
 
 -- the text begins with the line of this entry
@@ -42,6 +48,7 @@ BeginsWithEntry text e = (after : List ℕ) × (text ≡ text_of_entry e ++ afte
 pub record IsLegalReport (script : Script) (report : List ℕ) (h : History) : Type 0 where
   pub legal : IsLegal h
   pub serves : Serves script h
+  pub narrow : AllNarrow (reverse h.entries)
   pub text : text_of h ≡ report
 
 -- the lines before this one, counted from 1, go well, and this one is the line of no entry

@@ -1,3 +1,4 @@
+pub mod CutNotes
 pub mod Judgements
 pub mod Places
 pub mod Readings
@@ -6,3 +7,5 @@ pub mod Serving
 pub mod Sources
 pub mod Verdicts
 pub mod Walks
+pub mod Spots
+pub mod Turns

@@ -1,14 +1,9 @@
 -- Which kind an event and a command are of.
 use Rattle.std.specs.Prelude.{Bool, true, false}
 use Rattle.history_rules.specs.declared.entry.Event.{Event}
-use Rattle.history_rules.specs.declared.entry.Event.TheVariants.{Accepted, Fault}
+use Rattle.history_rules.specs.declared.entry.Event.TheVariants.{Accepted}
 use Rattle.script_serving.specs.declared.script.LineCommand.{LineCommand}
 use Rattle.script_serving.specs.declared.script.LineCommand.TheVariants.{Merge}
-
--- the event is a fault that was met
-abbrev pub is_fault : Event → Bool
-is_fault (Fault n kind) = true
-is_fault e = false
 
 -- the event accepts an operation
 abbrev pub is_acceptance : Event → Bool

@@ -5,6 +5,7 @@ use Rattle.history_rules.specs.declared.entry.Entry.{Entry}
 use Rattle.history_rules.specs.declared.entry.History.{History}
 use Rattle.history_rules.specs.Nodes.{Past}
 use Rattle.history_facts.specs.Generations.{ShowsGeneration}
+use Rattle.point_history.specs.Known.{IsKnown}
 use Rattle.report_text.specs.Texts.{text_of_entry}
 use Rattle.report_reading.specs.Widths.{EntryIsNarrow}
 use Rattle.report_reading.specs.Readings.{as_told}
@@ -16,15 +17,20 @@ use Rattle.documents.specs.declared.operation.Op.{Op}
 use Rattle.report_judge.specs.declared.judging.Shown.{Shown}
 use Rattle.report_judge.specs.declared.judging.WalkEnd.{WalkEnd}
 use Rattle.report_judge.specs.declared.judging.WalkEnd.TheVariants.{Whole, Short, Unserved, Unread}
-use Rattle.report_judge.specs.Judgements.{FitsNext, BeginsWithEntry, IsMissing}
+use Rattle.report_judge.specs.CutNotes.{ShowsCuts}
+use Rattle.report_judge.specs.Judgements.{AllNarrow, FitsNext, BeginsWithEntry, IsMissing}
 use Rattle.report_judge.specs.Places.{place_told, command_told}
 use Rattle.report_judge.specs.Replaying.{ShowsReplay}
+use Rattle.report_judge.specs.Turns.{ShowsTurns}
 
 -- what is kept shows what these entries do
 pub record IsShown (script : Script) (past : Past) (shown : Shown) : Type 0 where
+  pub known : IsKnown past shown.known
   pub generation : ShowsGeneration past shown.generation
   pub puts : shown.puts ≡ put_publishes past
   pub few : shown.puts ≤ length past
+  pub cuts : ShowsCuts past shown.cuts
+  pub turns : ShowsTurns script past shown.turns
   pub replay : ShowsReplay script.log past shown.replay
 
 -- the entry stands where the script's line of its number does, and what is not printed of it is what that line says
@@ -36,6 +42,7 @@ pub record IsEntryTold (script : Script) (due : List Op) (e : Entry) : Type 0 wh
 pub record ServesTo (script : Script) (report : List ℕ) (past : Past) (rest : List ℕ) : Type 0 where
   pub lanes : ServesLanes script past
   pub phases : ServesPhases (lines_of script) script.phases past
+  pub narrow : AllNarrow past
   pub text : report ≡ flat_map text_of_entry (reverse past) ++ rest
 
 -- the next line is that of an entry, but of none that its line asks for there

@@ -1,37 +1,42 @@
 //! What a report is: it is read as far as its entries serve the script, and then these are judged.
 
 ghost use Rattle.std.specs.Prelude.{◌≡◌, ◌≤◌, ◌<◌, ◌+◌, ◌^◌, ◌||◌, ◌∷◌, [], Some, reverse, length, IsTrue, IfOk, ◌↔◌};
-ghost use Rattle.history_facts.specs.Generations.{ShowsGeneration};
 ghost use Rattle.script_serving.specs.Form.{IsInForm};
-ghost use Rattle.script_serving.specs.Lines.{lines_of, earlier_phases_answered as earlier_phases_answered_lem};
+ghost use Rattle.point_history.specs.Known.{IsKnown};
+ghost use Rattle.script_serving.specs.Lines.{lines_of, earlier_phases_answered};
 ghost use Rattle.script_serving.specs.Serves.{ServesLanes, ServesPhases, is_merge_fault};
 ghost use Rattle.script_serving.specs.Refusals.{put_publishes};
-ghost use Rattle.report_judge.specs.Judgements.{FitsNext, newest_at, IsJudgement};
+ghost use Rattle.report_judge.specs.CutNotes.{ShowsCuts};
+ghost use Rattle.report_judge.specs.Judgements.{FitsNext, newest_at, IsLegalReport, IsJudgement};
 ghost use Rattle.report_judge.specs.Replaying.{left_to_replay};
+ghost use Rattle.report_judge.specs.Turns.{ArePhasesAnswered};
 ghost use Rattle.report_judge.specs.Walks.{IsShown, IsEntryTold, IsWalk, IsStop};
 
+use crate::cuts::{Cuts, had_put, note_cut};
 use crate::judgement::Judgement;
-use crate::lines::{
-    all_places, earlier_phases_answered, first_unanswered, lane_places, line_numbered,
-};
+use crate::lines::{all_places, first_unanswered};
 use crate::reading::read_entry;
 use crate::replay::Replay;
-use crate::serving::{fits_replay, fits_turn, is_fault, is_merge};
-use history_facts::{Generation, before_start};
+use crate::serving::{fits_replay, fits_turn, is_merge};
+use crate::spots::{Spots, find_line, phase_of, spots_of};
+use crate::turns::{Turns, is_phase, phases_passed};
+use history_facts::Generation;
 use history_rules::{Entry, Event, History, Verdict};
 use nrt_base::{At, LineNo, List, NoMemory};
-use point_history::legal;
+use point_history::{KnownPast, is_fault, legal};
 use report_reading::{entry_is_narrow, next_line};
 use script_serving::{LineCommand, Script};
-use serving_rules::cut_has_put;
 use std::alloc::Global;
 
 /// What the entries before a place show.
 #[derive(Drop)]
 pub struct Shown {
+    pub known: KnownPast,
     pub generation: Generation,
     /// How many publishes made a segment.
     pub puts: usize,
+    pub cuts: Cuts,
+    pub turns: Turns,
     pub replay: Replay,
 }
 
@@ -51,50 +56,63 @@ pub enum WalkEnd {
 /// Whether an entry is a fault of a merge, or every line of the phases before its own has its reply.
 fn is_in_phase(
     alloc: Global,
+    spots: &Spots,
     script: &Script,
+    passed: usize,
     command: &LineCommand,
+    known: &KnownPast,
     entries: &[Entry],
     entry: &Entry,
 ) -> Result<bool, NoMemory>
+    requires known { IsKnown (reverse entries.now) known.now }
+    requires passed { ArePhasesAnswered script.now (reverse entries.now) passed }
     ensures { IfOk result (λ is. is ≡ (is_merge_fault (Some command.now) entry.now.event
-        || earlier_phases_answered_lem script.now.phases entry.now.at (reverse entries.now))) }
+        || earlier_phases_answered script.now.phases entry.now.at (reverse entries.now))) }
 {
     if is_merge(command) && is_fault(&entry.event) {
         return Ok(true);
     }
-    earlier_phases_answered(alloc, script.phases.as_slice(), entry.at, entries)
+    let phase = phase_of(spots, entry.at, script);
+    is_phase(alloc, script, passed, phase, known, entry.at, entries)
 }
 
 /// Whether an entry is one that its line asks for behind these, in the turn of its line and its phase.
 fn fits_next(
     alloc: Global,
+    spots: &Spots,
     script: &Script,
+    passed: usize,
     shown: &Shown,
     entries: &[Entry],
     entry: &Entry,
 ) -> Result<bool, NoMemory>
     requires form { IsInForm script.now }
     requires shown { IsShown script.now (reverse entries.now) shown.now }
+    requires passed { ArePhasesAnswered script.now (reverse entries.now) passed }
     requires told { IsEntryTold script.now (left_to_replay shown.now.replay) entry.now }
     ensures { IfOk result (λ fits. IsTrue fits ↔
         FitsNext script.now (reverse entries.now) entry.now) }
 {
-    let Some(line) = line_numbered(entry.at.line.0, script) else {
+    let Some(line) = find_line(spots, entry.at.line.0, script) else {
         return Ok(false);
     };
     let command = &line.command;
-    if !is_in_phase(alloc, script, command, entries, entry)? {
+    let known = &shown.known;
+    if !is_in_phase(alloc, spots, script, passed, command, known, entries, entry)? {
         return Ok(false);
     }
     if !shown.replay.is_done() {
         return Ok(fits_replay(command, entry.at, entries, &entry.event));
     }
-    let places = lane_places(alloc, script, entry.at.lane)?;
+    let is_turn = shown
+        .turns
+        .is_turn(alloc, script, known, entry.at, entries)?;
     fits_turn(
         alloc,
         command,
-        places.as_slice(),
+        is_turn,
         entry.at,
+        known,
         &shown.generation,
         shown.puts,
         entries,
@@ -102,20 +120,9 @@ fn fits_next(
     )
 }
 
-/// What entries show of the generation.
-fn generation_after(entries: &[Entry]) -> Generation
-    requires few { length entries.now + 1 < 2 ^ 64 }
-    ensures { ShowsGeneration (reverse entries.now) result }
-{
-    let mut generation = Generation::first();
-    for (at, entry) in entries.iter().enumerate() {
-        generation = generation.after(&entries[..at], entry);
-    }
-    generation
-}
-
 /// How many publishes made a segment, after one more entry.
-fn puts_after(puts: usize, entries: &[Entry], entry: &Entry) -> usize
+fn puts_after(puts: usize, cuts: &Cuts, entries: &[Entry], entry: &Entry) -> usize
+    requires cuts { ShowsCuts (reverse entries.now) cuts.now }
     requires puts { puts ≡ put_publishes (reverse entries.now) }
     requires few { length entries.now + 1 < 2 ^ 64 }
     requires low { puts ≤ length entries.now }
@@ -124,8 +131,7 @@ fn puts_after(puts: usize, entries: &[Entry], entry: &Entry) -> usize
 {
     match &entry.event {
         Event::Published { .. } => {
-            let start = before_start(entry.at, entries);
-            if cut_has_put(&generation_after(start), start) {
+            if had_put(cuts, entry.at) {
                 puts + 1
             } else {
                 puts
@@ -137,14 +143,18 @@ fn puts_after(puts: usize, entries: &[Entry], entry: &Entry) -> usize
 
 impl Shown {
     /// Before any entry.
-    fn new(alloc: Global, script: &Script) -> Self
-        ensures { IsShown script.now [] result }
+    fn new(alloc: Global, script: &Script) -> Result<Self, NoMemory>
+        ensures { IfOk result (IsShown script.now []) }
     {
-        Shown {
+        let turns = Turns::new(alloc, script)?;
+        Ok(Shown {
+            known: KnownPast::new(alloc),
             generation: Generation::first(),
             puts: 0,
+            cuts: Cuts::new(alloc),
+            turns,
             replay: Replay::new(alloc, script.log),
-        }
+        })
     }
 
     /// Takes one more entry in, behind these.
@@ -159,16 +169,25 @@ impl Shown {
         ensures { IfOk result (IsShown script.now (entry.now ∷ reverse before.now)) }
     {
         let Shown {
+            known,
             generation,
             puts,
+            mut cuts,
+            mut turns,
             mut replay,
         } = self;
-        let puts = puts_after(puts, before, entry);
+        let puts = puts_after(puts, &cuts, before, entry);
+        note_cut(&mut cuts, &generation, before, entry)?;
         let generation = generation.after(before, entry);
-        replay.take(alloc, before, entry)?;
+        replay.take(alloc, &known, before, entry)?;
+        let known = known.after(before, entry)?;
+        turns.take(&known, before, entry)?;
         Ok(Shown {
+            known,
             generation,
             puts,
+            cuts,
+            turns,
             replay,
         })
     }
@@ -197,7 +216,7 @@ fn end(
     ensures { IfOk result (IsStop script.now (reverse entries.now) []) }
 {
     let places = all_places(alloc, script)?;
-    if let Some(at) = first_unanswered(places.as_slice(), entries) {
+    if let Some(at) = first_unanswered(places.as_slice(), &shown.known, entries) {
         return Ok(WalkEnd::Short(at.line));
     }
     if shown.replay.is_done() {
@@ -223,17 +242,23 @@ pub fn walk(alloc: Global, script: &Script, report: &[u8]) -> Result<(History, W
     requires form { IsInForm script.now }
     ensures { IfOk result (λ walk. IsWalk script.now report.now walk.0 walk.1) }
 {
-    let mut shown = Shown::new(alloc, script);
+    let spots = spots_of(alloc, script)?;
+    let first = Shown::new(alloc, script)?;
+    let mut shown = first;
+    let mut passed = 0;
     let mut entries = Vec::new(alloc);
     let mut left = report;
     while let Some((line, rest)) = next_line(left) {
-        let Some(entry) = read_entry(alloc, script, shown.replay.due(), line)? else {
+        let Some(entry) = read_entry(alloc, &spots, script, shown.replay.due(), line)? else {
             return Ok((history_of(script, entries), WalkEnd::Unread));
         };
-        if !fits_next(alloc, script, &shown, entries.as_slice(), &entry)? {
+        let before = entries.as_slice();
+        let phase = phase_of(&spots, entry.at, script).unwrap_or(0);
+        passed = phases_passed(alloc, script, passed, phase, &shown.known, before)?;
+        if !fits_next(alloc, &spots, script, passed, &shown, before, &entry)? {
             return Ok((history_of(script, entries), WalkEnd::Unserved));
         }
-        shown = shown.take(alloc, script, entries.as_slice(), &entry)?;
+        shown = shown.take(alloc, script, before, &entry)?;
         entries.push(entry)?;
         left = rest;
     }
@@ -241,10 +266,9 @@ pub fn walk(alloc: Global, script: &Script, report: &[u8]) -> Result<(History, W
     Ok((history_of(script, entries), stop))
 }
 
-/// What a report is: the text of a legal history that serves the script; or which of its lines is the first with which no such history
-/// goes on, and why; or which line of the script has no reply in it.
+/// What a report is.
 #[tactic(auto, using(crate::proofs::WalkLaws::legal_whole, crate::proofs::WalkLaws::legal_short, crate::proofs::WalkLaws::legal_unserved, crate::proofs::WalkLaws::legal_unread))]
-pub fn judge(alloc: Global, script: &Script, report: &[u8]) -> Result<Judgement, NoMemory>
+fn judgement_of(alloc: Global, script: &Script, report: &[u8]) -> Result<Judgement, NoMemory>
     requires form { IsInForm script.now }
     ensures { IfOk result (IsJudgement script.now report.now) }
 {
@@ -261,4 +285,17 @@ pub fn judge(alloc: Global, script: &Script, report: &[u8]) -> Result<Judgement,
         WalkEnd::Unserved => Judgement::Unserved(next),
         WalkEnd::Unread => Judgement::Unread(next),
     })
+}
+
+/// What a report is: the text of a legal history that serves the script; or which of its lines is the first with which no such history
+/// goes on, and why; or which line of the script has no reply in it. Of a report that is the text of such a history nothing else is said.
+#[tactic(auto, using(crate::proofs::OneLaws::judged_legal))]
+pub fn judge(alloc: Global, script: &Script, report: &[u8]) -> Result<Judgement, NoMemory>
+    requires form { IsInForm script.now }
+    ensures judged { IfOk result (IsJudgement script.now report.now) }
+    ensures every { IfOk result (λ judgement. (h : History)
+        → IsLegalReport script.now report.now h → judgement ≡ Judgement.Legal h) }
+{
+    let judgement = judgement_of(alloc, script, report)?;
+    Ok(judgement)
 }

@@ -1,6 +1,7 @@
 //! The judge of reports: whether one is the text of a legal history that serves its script, and else the first line that is wrong.
 #![tactic(auto)]
 
+mod cuts;
 mod explaining;
 mod judgement;
 mod judging;
@@ -9,6 +10,8 @@ mod reading;
 mod replay;
 mod serving;
 mod source;
+mod spots;
+mod turns;
 mod verdicts;
 
 pub use explaining::explain;

@@ -5,11 +5,13 @@ ghost use Rattle.std.specs.Option.{option_copied};
 ghost use Rattle.std.specs.List.{flat_map, list_all, list_any};
 ghost use Rattle.history_rules.specs.Lines.{same_at as same_at_lem, is_answered as is_answered_lem};
 ghost use Rattle.script_serving.specs.Lines.{lines_of, lines_of_phase, lines_under, lines_of_lane, has_line, all_answered as all_answered_lem, earlier_phases_answered as earlier_phases_answered_lem};
+ghost use Rattle.point_history.specs.Known.{IsKnown};
 ghost use Rattle.report_judge.specs.Places.{place_of, earlier_places, unanswered_place, line_numbered as line_numbered_lem};
 
-use history_facts::{is_answered, same_at};
+use history_facts::same_at;
 use history_rules::Entry;
 use nrt_base::{At, LaneNo, List, NoMemory};
+use point_history::KnownPast;
 use script_serving::{Line, Phase, Script};
 use std::alloc::Global;
 
@@ -85,14 +87,15 @@ pub fn all_places(alloc: Global, script: &Script) -> Result<Vec<At>, NoMemory>
 }
 
 /// Whether every line before the one at this place has its reply.
-pub fn earlier_answered(places: &[At], at: At, entries: &[Entry]) -> bool
+pub fn earlier_answered(places: &[At], at: At, known: &KnownPast, entries: &[Entry]) -> bool
+    requires { IsKnown (reverse entries.now) known.now }
     ensures { result ≡ earlier_places places.now at (reverse entries.now) }
 {
     for place in places {
         if same_at(*place, at) {
             return true;
         }
-        if !is_answered(*place, entries) {
+        if !known.is_answered(*place, entries) {
             return false;
         }
     }
@@ -100,18 +103,20 @@ pub fn earlier_answered(places: &[At], at: At, entries: &[Entry]) -> bool
 }
 
 /// The first of the places whose line has no reply.
-pub fn first_unanswered(places: &[At], entries: &[Entry]) -> Option<At>
+pub fn first_unanswered(places: &[At], known: &KnownPast, entries: &[Entry]) -> Option<At>
+    requires { IsKnown (reverse entries.now) known.now }
     ensures { result ≡ unanswered_place places.now (reverse entries.now) }
 {
     for place in places {
-        if !is_answered(*place, entries) {
+        if !known.is_answered(*place, entries) {
             return Some(*place);
         }
     }
     None
 }
 
-fn has_place(places: &[At], at: At) -> bool
+/// Whether one of the places is this.
+pub fn has_place(places: &[At], at: At) -> bool
     ensures { result ≡ list_any (λ place. same_at_lem place at) places.now }
 {
     for place in places {
@@ -122,11 +127,12 @@ fn has_place(places: &[At], at: At) -> bool
     false
 }
 
-fn all_answered(places: &[At], entries: &[Entry]) -> bool
+fn all_answered(places: &[At], known: &KnownPast, entries: &[Entry]) -> bool
+    requires { IsKnown (reverse entries.now) known.now }
     ensures { result ≡ list_all (λ place. is_answered_lem place (reverse entries.now)) places.now }
 {
     for place in places {
-        if !is_answered(*place, entries) {
+        if !known.is_answered(*place, entries) {
             return false;
         }
     }
@@ -144,12 +150,18 @@ fn phase_has(alloc: Global, phase: &Phase, at: At) -> Result<bool, NoMemory>
 
 /// Whether every line of a phase has its reply.
 #[tactic(auto, using(crate::proofs::PlaceLaws::all_places_are))]
-fn phase_answered(alloc: Global, phase: &Phase, entries: &[Entry]) -> Result<bool, NoMemory>
+pub fn phase_answered(
+    alloc: Global,
+    phase: &Phase,
+    known: &KnownPast,
+    entries: &[Entry],
+) -> Result<bool, NoMemory>
+    requires { IsKnown (reverse entries.now) known.now }
     ensures { IfOk result (λ answered. answered
         ≡ all_answered_lem (lines_of_phase phase.now) (reverse entries.now)) }
 {
     let places = phase_places(alloc, phase)?;
-    Ok(all_answered(places.as_slice(), entries))
+    Ok(all_answered(places.as_slice(), known, entries))
 }
 
 /// Whether every line of the phases before the one that has this place has its reply.
@@ -157,8 +169,10 @@ pub fn earlier_phases_answered(
     alloc: Global,
     phases: &[Phase],
     at: At,
+    known: &KnownPast,
     entries: &[Entry],
 ) -> Result<bool, NoMemory>
+    requires { IsKnown (reverse entries.now) known.now }
     ensures { IfOk result (λ answered. answered
         ≡ earlier_phases_answered_lem phases.now at (reverse entries.now)) }
 {
@@ -166,7 +180,7 @@ pub fn earlier_phases_answered(
         if phase_has(alloc, phase, at)? {
             return Ok(true);
         }
-        if !phase_answered(alloc, phase, entries)? {
+        if !phase_answered(alloc, phase, known, entries)? {
             return Ok(false);
         }
     }

@@ -2,9 +2,10 @@
 
 ghost use Rattle.std.specs.Prelude.{◌≡◌, ◌↔◌, IsTrue, IfOk};
 ghost use Rattle.report_text.specs.Texts.{text_of_entry};
+ghost use Rattle.script_serving.specs.Form.{IsInForm};
 ghost use Rattle.report_judge.specs.Readings.{IsEntryRead, IsToldRead};
 
-use crate::lines::line_numbered;
+use crate::spots::{Spots, find_line};
 use documents::Op;
 use history_rules::Entry;
 use nrt_base::{At, LaneNo, LineNo, NoMemory};
@@ -46,17 +47,19 @@ fn read_told(
 /// The entry that a line of a report is, with what its line of the script has for it.
 pub fn read_entry(
     alloc: Global,
+    spots: &Spots,
     script: &Script,
     due: &[Op],
     line: &[u8],
 ) -> Result<Option<Entry>, NoMemory>
+    requires form { IsInForm script.now }
     ensures { IfOk result (IsEntryRead script.now due.now line.now) }
 {
     let (word, _) = first_word(line);
     let Some(number) = count_word(word) else {
         return Ok(None);
     };
-    match line_numbered(number, script) {
+    match find_line(spots, number, script) {
         Some(told) => read_told(alloc, told.at, due, &told.command, line),
         None => {
             let at = At {

@@ -1,12 +1,14 @@
 //! What a log has, and what a replay has left of it.
 
 ghost use Rattle.std.specs.Prelude.{◌≡◌, ◌↔◌, [], ◌∷◌, reverse, drop, IsTrue, OnOk, IfOk};
+ghost use Rattle.point_history.specs.Known.{IsKnown};
 ghost use Rattle.report_judge.specs.Replaying.{ShowsReplay, left_to_replay};
 
 use documents::Op;
-use history_facts::{is_answered, operation_count, version_of};
+use history_facts::{operation_count, version_of};
 use history_rules::{Entry, Event};
 use nrt_base::{NoMemory, Share, Version};
+use point_history::KnownPast;
 use std::alloc::Global;
 
 /// What a log has, and what is left of it to be accepted again. Without a log there is nothing of both.
@@ -87,7 +89,14 @@ impl Replay {
 
     /// Takes one more entry in, behind these.
     #[tactic(auto, using(crate::proofs::ReplayLaws::promoted_has))]
-    pub fn take(&mut self, alloc: Global, before: &[Entry], entry: &Entry) -> Result<(), NoMemory>
+    pub fn take(
+        &mut self,
+        alloc: Global,
+        known: &KnownPast,
+        before: &[Entry],
+        entry: &Entry,
+    ) -> Result<(), NoMemory>
+        requires known { IsKnown (reverse before.now) known.now }
         requires shown { ShowsReplay self.old.log (reverse before.now) self.old }
         ensures log { self.new.log ≡ self.old.log }
         ensures shown { OnOk result
@@ -98,7 +107,7 @@ impl Replay {
         }
         match &entry.event {
             Event::Accepted { op, .. } => {
-                if !is_answered(entry.at, before) {
+                if !known.is_answered(entry.at, before) {
                     self.logged.push(op.share(alloc)?)?;
                 }
                 self.count_again();

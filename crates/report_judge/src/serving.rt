@@ -1,20 +1,22 @@
 //! Whether an entry is one that its line asks for, in its turn.
 
-ghost use Rattle.std.specs.Prelude.{◌≡◌, List, [], ◌∷◌, map, reverse, Some, None, IsTrue, IfOk, ◌↔◌};
+ghost use Rattle.std.specs.Prelude.{◌≡◌, List, [], ◌∷◌, reverse, Some, None, IsTrue, IfOk, ◌↔◌};
+ghost use Rattle.std.specs.Option.{option_copied};
 ghost use Rattle.history_facts.specs.Generations.{ShowsGeneration};
 ghost use Rattle.script_serving.specs.Refusals.{put_publishes, refusal as refusal_lem};
 ghost use Rattle.script_serving.specs.Serves.{First, Suits, SuitsFault, FitsTurn, FitsReplay, is_newest_at as is_newest_at_lem};
+ghost use Rattle.script_serving.specs.Lines.{earlier_answered};
 ghost use Rattle.history_rules.specs.Lines.{last_of_line as last_of_line_lem};
+ghost use Rattle.point_history.specs.Known.{IsKnown};
 ghost use Rattle.script_serving.specs.declared.script.Line.{Line};
 ghost use Rattle.documents.specs.declared.operation.Op.{Op};
 ghost use Rattle.report_reading.specs.Readings.{as_told};
-ghost use Rattle.report_judge.specs.Places.{place_of};
-ghost use Rattle.report_judge.specs.Serving.{is_fault as is_fault_lem, is_merge as is_merge_lem, is_acceptance as is_acceptance_lem};
+ghost use Rattle.report_judge.specs.Serving.{is_merge as is_merge_lem, is_acceptance as is_acceptance_lem};
 
-use crate::lines::earlier_answered;
-use history_facts::{Generation, is_answered, last_of_line, same_at};
+use history_facts::{Generation, last_of_line, same_at};
 use history_rules::{Cause, Entry, Event};
 use nrt_base::{At, NoMemory};
+use point_history::{KnownPast, is_fault};
 use script_serving::LineCommand;
 use serving_rules::{begins, follows, may_be_refused, refusal};
 use std::alloc::Global;
@@ -93,6 +95,7 @@ fn is_first(
     alloc: Global,
     command: &LineCommand,
     at: At,
+    known: &KnownPast,
     generation: &Generation,
     puts: usize,
     entries: &[Entry],
@@ -101,12 +104,26 @@ fn is_first(
     requires told { as_told [] command.now event.now ≡ event.now }
     requires shown { ShowsGeneration (reverse entries.now) generation.now }
     requires puts { puts ≡ put_publishes (reverse entries.now) }
+    requires known { IsKnown (reverse entries.now) known.now }
     ensures { IfOk result (λ is. IsTrue is ↔ First command.now at (reverse entries.now)
         (refusal_lem command.now at.lane.0 (reverse entries.now)) event.now) }
 {
-    match refusal(command, at.lane, generation, entries) {
+    match refusal(command, at.lane, known.primary, generation, entries) {
         Some(cause) => Ok(is_refused_for(event, &cause)),
         None => is_first_unrefused(alloc, command, at, generation, puts, entries, event),
+    }
+}
+
+/// The newest entry of a line that is no fault. It looks for it only where there is one.
+#[tactic(auto, using(crate::proofs::ServingLaws::nothing_newest))]
+fn newest_of_line<'a>(at: At, known: &KnownPast, entries: &'a [Entry]) -> Option<&'a Event>
+    requires { IsKnown (reverse entries.now) known.now }
+    ensures { option_copied result ≡ last_of_line_lem at (reverse entries.now) }
+{
+    if known.line(at, entries).begun {
+        last_of_line(at, entries)
+    } else {
+        None
     }
 }
 
@@ -115,6 +132,7 @@ fn suits(
     alloc: Global,
     command: &LineCommand,
     at: At,
+    known: &KnownPast,
     generation: &Generation,
     puts: usize,
     entries: &[Entry],
@@ -123,22 +141,13 @@ fn suits(
     requires told { as_told [] command.now event.now ≡ event.now }
     requires shown { ShowsGeneration (reverse entries.now) generation.now }
     requires puts { puts ≡ put_publishes (reverse entries.now) }
+    requires known { IsKnown (reverse entries.now) known.now }
     ensures { IfOk result (λ is. IsTrue is ↔ Suits command.now at (reverse entries.now)
         (last_of_line_lem at (reverse entries.now)) event.now) }
 {
-    match last_of_line(at, entries) {
-        None => is_first(alloc, command, at, generation, puts, entries, event),
-        Some(last) => Ok(!is_answered(at, entries) && follows(command, last, event)),
-    }
-}
-
-/// Whether the event is a fault that was met.
-pub fn is_fault(event: &Event) -> bool
-    ensures { result ≡ is_fault_lem event.now }
-{
-    match event {
-        Event::Fault { .. } => true,
-        _ => false,
+    match newest_of_line(at, known, entries) {
+        None => is_first(alloc, command, at, known, generation, puts, entries, event),
+        Some(last) => Ok(!known.is_answered(at, entries) && follows(command, last, event)),
     }
 }
 
@@ -162,22 +171,33 @@ pub fn is_merge(command: &LineCommand) -> bool
 }
 
 /// Whether a fault comes before its line's reply and in its turn, or is one of a merge.
-fn fits_fault(command: &LineCommand, places: &[At], at: At, entries: &[Entry]) -> bool
-    ensures { (lines : List Line) → places.now ≡ map place_of lines → IsTrue result ↔
-        SuitsFault command.now lines at (reverse entries.now) }
+fn fits_fault(
+    command: &LineCommand,
+    is_turn: bool,
+    at: At,
+    known: &KnownPast,
+    entries: &[Entry],
+) -> bool
+    requires { IsKnown (reverse entries.now) known.now }
+    ensures { (lines : List Line) → is_turn ≡ earlier_answered lines at (reverse entries.now)
+        → IsTrue result ↔ SuitsFault command.now lines at (reverse entries.now) }
 {
     if is_merge(command) {
         return true;
     }
-    !is_answered(at, entries) && earlier_answered(places, at, entries)
+    if known.is_answered(at, entries) {
+        return false;
+    }
+    is_turn
 }
 
-/// Whether an entry is one that its line asks for, in the line's turn in its lane.
+/// Whether an entry is one that its line asks for, where it is the line's turn in its lane, or is not.
 pub fn fits_turn(
     alloc: Global,
     command: &LineCommand,
-    places: &[At],
+    is_turn: bool,
     at: At,
+    known: &KnownPast,
     generation: &Generation,
     puts: usize,
     entries: &[Entry],
@@ -186,16 +206,18 @@ pub fn fits_turn(
     requires told { as_told [] command.now event.now ≡ event.now }
     requires shown { ShowsGeneration (reverse entries.now) generation.now }
     requires puts { puts ≡ put_publishes (reverse entries.now) }
-    ensures { (lines : List Line) → places.now ≡ map place_of lines → IfOk result (λ fits. IsTrue fits ↔
+    requires known { IsKnown (reverse entries.now) known.now }
+    ensures { (lines : List Line) → is_turn ≡ earlier_answered lines at (reverse entries.now)
+        → IfOk result (λ fits. IsTrue fits ↔
         FitsTurn lines (reverse entries.now) at (Some command.now) event.now) }
 {
     if is_fault(event) {
-        return Ok(fits_fault(command, places, at, entries));
+        return Ok(fits_fault(command, is_turn, at, known, entries));
     }
-    if !earlier_answered(places, at, entries) {
+    if !is_turn {
         return Ok(false);
     }
-    suits(alloc, command, at, generation, puts, entries, event)
+    suits(alloc, command, at, known, generation, puts, entries, event)
 }
 
 fn is_newest_at(at: At, entries: &[Entry]) -> bool

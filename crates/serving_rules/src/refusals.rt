@@ -1,6 +1,7 @@
 //! Why a line is refused before it has started, and what it may be refused for.
 
 ghost use Rattle.std.specs.Prelude.{◌≡◌, ◌==◌, ℕ, length, reverse, IfOk};
+ghost use Rattle.history_rules.specs.Nodes.{Past, primary_of};
 ghost use Rattle.history_rules.specs.Faults.{has_fault, is_of_disk};
 ghost use Rattle.history_rules.specs.Points.{cut_of, cut_has_put};
 ghost use Rattle.history_rules.specs.Started.{is_loss as is_loss_lem};
@@ -9,7 +10,7 @@ ghost use Rattle.script_serving.specs.Refusals.{when as when_lem, without_primar
 
 use history_facts::{
     Generation, documents_at, has_ticket, is_at, is_of_disk, is_running, merge_count,
-    newest_version, primary_of, same_at,
+    newest_version, same_at,
 };
 use history_rules::{Cause, Entry, Event};
 use nrt_base::{At, LaneNo, NoMemory, NodeNo, SegNo, Version};
@@ -23,10 +24,10 @@ fn when(holds: bool, cause: Cause) -> Option<Cause>
     if holds { Some(cause) } else { None }
 }
 
-fn without_primary(entries: &[Entry]) -> Option<Cause>
-    ensures { result ≡ without_primary_lem (reverse entries.now) }
+fn without_primary(primary: Option<NodeNo>) -> Option<Cause>
+    ensures { (past : Past) → primary ≡ primary_of past → result ≡ without_primary_lem past }
 {
-    when(primary_of(entries).node.is_none(), Cause::NoPrimary)
+    when(primary.is_none(), Cause::NoPrimary)
 }
 
 fn without_node(n: NodeNo, entries: &[Entry]) -> Option<Cause>
@@ -68,46 +69,59 @@ fn cut_is_empty(generation: &Generation, entries: &[Entry]) -> bool
     generation.accepted <= generation.published
 }
 
-fn publish_refusal(generation: &Generation, entries: &[Entry]) -> Option<Cause>
+fn publish_refusal(
+    primary: Option<NodeNo>,
+    generation: &Generation,
+    entries: &[Entry],
+) -> Option<Cause>
+    requires primary { primary ≡ primary_of (reverse entries.now) }
     requires shown { ShowsGeneration (reverse entries.now) generation.now }
     ensures { result ≡ refusal_lem LineCommand.Publish 0 (reverse entries.now) }
 {
-    without_primary(entries).or(when(
+    without_primary(primary).or(when(
         cut_has_put(generation, entries) && names_are_spent(generation, entries),
         Cause::NamesSpent,
     ))
 }
 
-fn promote_refusal(n: NodeNo, force: Force, entries: &[Entry]) -> Option<Cause>
+fn promote_refusal(
+    n: NodeNo,
+    force: Force,
+    primary: Option<NodeNo>,
+    entries: &[Entry],
+) -> Option<Cause>
+    requires primary { primary ≡ primary_of (reverse entries.now) }
     ensures { result ≡ refusal_lem (LineCommand.Promote n force) 0 (reverse entries.now) }
 {
     let forced = forced_version(force, entries);
     let newest = newest_version(entries);
     let low = when(forced < newest, Cause::ForceLow(Version(newest)));
     let high = when(1 << 62 <= forced, Cause::ForceHigh);
-    let up = when(primary_of(entries).node.is_some(), Cause::PrimaryUp);
+    let up = when(primary.is_some(), Cause::PrimaryUp);
     without_node(n, entries).or(up.or(high.or(low)))
 }
 
-/// Why a line is refused before it has started.
+/// Why a line is refused before it has started, where this primary runs.
 pub fn refusal(
     command: &LineCommand,
     lane: LaneNo,
+    primary: Option<NodeNo>,
     generation: &Generation,
     entries: &[Entry],
 ) -> Option<Cause>
+    requires primary { primary ≡ primary_of (reverse entries.now) }
     requires shown { ShowsGeneration (reverse entries.now) generation.now }
     ensures { result ≡ refusal_lem command.now lane.0 (reverse entries.now) }
 {
     match command {
         LineCommand::Put(_) | LineCommand::Delete(_) | LineCommand::Drop(_) => {
-            without_primary(entries)
+            without_primary(primary)
         }
-        LineCommand::Settle | LineCommand::Merge(_) => without_primary(entries),
-        LineCommand::Publish => publish_refusal(generation, entries),
+        LineCommand::Settle | LineCommand::Merge(_) => without_primary(primary),
+        LineCommand::Publish => publish_refusal(primary, generation, entries),
         LineCommand::Copy(n) => {
-            let primary = when(is_at(primary_of(entries).node, *n), Cause::Primary);
-            without_node(*n, entries).or(without_primary(entries).or(primary))
+            let is_source = when(is_at(primary, *n), Cause::Primary);
+            without_node(*n, entries).or(without_primary(primary).or(is_source))
         }
         LineCommand::Search(n, _) | LineCommand::Commit(n) => without_node(*n, entries),
         LineCommand::Crash(n, _) | LineCommand::Files(n) => without_node(*n, entries),
@@ -118,7 +132,7 @@ pub fn refusal(
             when(!has_ticket(lane, *t, entries), Cause::NoTicket)
         }
         LineCommand::Reopen(n) => when(is_running(*n, entries), Cause::Up),
-        LineCommand::Promote(n, force) => promote_refusal(*n, *force, entries),
+        LineCommand::Promote(n, force) => promote_refusal(*n, *force, primary, entries),
         LineCommand::Drain(_) | LineCommand::Fault(_, _) => None,
     }
 }

@@ -11,4 +11,4 @@ returns c = λ a.
     let old = get line_cmp c.args.begun.now (a.lane.0, a.line.0) in
     ap (λ (o : Option (List Doc)). unwrap_or o []) (c.in_ok-insert.ensures.updates.0 (a.lane.0, a.line.0)
     ∙ ap (λ (b : Bool). if b then Some c.args.docs else old) (is_eq-line_cmp c.args.at a))
-    ∙ unwrap_or-if (same_at c.args.at a) c.args.docs old
+    ∙ unwrap_or-if (same_at c.args.at a) c.args.docs [] old

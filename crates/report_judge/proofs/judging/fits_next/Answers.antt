@@ -32,4 +32,4 @@ returns c =
     let here = stands_told c.args.script.now (left_to_replay c.args.shown.now.replay) c.args.entry.now c.in-Some.line.now c.requires.form c.requires.told (sym c.in-Some.ensures) in
     let lines = lines_of_lane c.args.entry.now.at.lane.0 c.args.script.now in
     turn_next c.args.script.now (reverse c.args.entries.now) c.args.entry.now c.in-Some.line.now.command here (left_to_replay c.args.shown.now.replay) c.requires.shown.replay.due
-    (c.if-not-is_done.ensures.0 refl) (sym c.in_ok-is_in_phase.ensures ∙ c.if-not-branch.false) c.fits_turn.result (c.fits_turn.ensures lines (c.as_slice.ensures.value ∙ c.in_ok-places.ensures))
+    (c.if-not-is_done.ensures.0 refl) (sym c.in_ok-is_in_phase.ensures ∙ c.if-not-branch.false) c.fits_turn.result (c.fits_turn.ensures lines c.in_ok-is_turn.ensures)

@@ -1,10 +1,12 @@
 use Rattle.std.proofs.Common.{length}
 use Rattle.std.specs.Prelude.{reverse}
 use Rattle.report_judge.specs.Walks.{IsShown, ServesTo}
+use Rattle.report_judge.specs.Turns.{ArePhasesAnswered}
 use Rattle.report_judge.proofs.judging.walk.Given as goal
 
 abbrev pub invariant-loop-line : goal.invariant-loop-line
 invariant-loop-line l = record {
+  passed : ArePhasesAnswered l.script (reverse l.entries.items) l.passed;
   shown : IsShown l.script (reverse l.entries.items) l.shown;
   serves : ServesTo l.script l.report (reverse l.entries.items) l.left;
 }

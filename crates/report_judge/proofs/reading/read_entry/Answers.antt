@@ -7,10 +7,10 @@ pub returns-in_default : goal.returns-in_default
 returns-in_default c =
     no_number c.args.line.now c.first_word.result.0.now (later_words c.first_word.result.1.now) c.first_word.ensures.words (sym c.in_default.ensures)
 
-pub returns-in-Some-line_numbered : goal.returns-in-Some-line_numbered
-returns-in-Some-line_numbered c =
-    told_by_line c.args.script.now c.args.due.now c.args.line.now c.first_word.result.0.now (later_words c.first_word.result.1.now) c.in-Some.number c.in-Some-line_numbered.told.now
-    c.first_word.ensures.words (sym c.in-Some.ensures) (sym c.in-Some-line_numbered.ensures) c.read_told.result c.read_told.ensures
+pub returns-in-Some-find_line : goal.returns-in-Some-find_line
+returns-in-Some-find_line c =
+    told_by_line c.args.script.now c.args.due.now c.args.line.now c.first_word.result.0.now (later_words c.first_word.result.1.now) c.in-Some.number c.in-Some-find_line.told.now
+    c.first_word.ensures.words (sym c.in-Some.ensures) (sym c.in-Some-find_line.ensures) c.read_told.result c.read_told.ensures
 
 pub returns-in-None : goal.returns-in-None
 returns-in-None c =

@@ -5,7 +5,7 @@ use Rattle.history_rules.specs.declared.point.Verdict.{Verdict}
 use Rattle.history_rules.specs.Legal.{IsVerdict, BreaksFirst}
 use Rattle.report_reading.specs.Widths.{EntryIsNarrow}
 use Rattle.report_judge.proofs.WalkLaws.{broken_at}
-use Rattle.report_judge.proofs.judging.judge.Goals as goal
+use Rattle.report_judge.proofs.judging.judgement_of.Goals as goal
 
 pub returns-in-Broken : goal.returns-in-Broken
 returns-in-Broken c =
