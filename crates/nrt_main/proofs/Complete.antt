@@ -16,6 +16,7 @@ use Rattle.nrt_main.specs.declared.status.Status.{Status}
 use Rattle.nrt_main.specs.declared.status.Status.TheVariants.{Done, ReadFault, WriteFault, Memory, TooLarge, BadIndex, BadImage, BadStream}
 use Rattle.nrt_main.specs.Headline.{IsRunnable, TakesMore, AnswersWhole}
 use Rattle.nrt_main.specs.Complete.{NoneFailed, Offers, OffersScript, OffersMessages, OffersImage, IsDoneOrMemory, IsCheckedOrMemory}
+use Rattle.nrt_main.specs.Pictures.{has_report, AnswersShown, OffersShown}
 use Rattle.nrt_main.proofs.FrameAnswers.{more_taken}
 
 -- the answer is want of memory, or not
@@ -83,6 +84,15 @@ module _ (left after : Option (List ℕ)) (r s w x : ℕ) (answer : Status) (rea
             | inl done ↦ inl done
             | inr failed ↦ absurd (no_write failed)
           ]
+
+  -- a script that was offered alone was shown
+  pub shown_done : (answer ≢ ReadFault → answer ≢ TooLarge → answer ≢ Memory → AnswersShown left after answer) → OffersShown left → IsDoneOrMemory answer
+  shown_done answers o = script_done
+      (λ read large memory.
+      let whole = answers read large memory in
+      let same : whole.bytes ≡ o.bytes = gave_all left after o.bytes o.offered whole.bytes whole.read.taken whole.read.ended in
+      record { bytes = whole.bytes; read = whole.read; given = whole.given.script (ap has_report same ∙ o.none) })
+      (record { bytes = o.bytes; offered = o.offered; script = o.script; runnable = o.runnable })
 
 -- ---- a load
 

@@ -36,7 +36,7 @@ fn judged_script(alloc: Global, bytes: &[u8]) -> Result<Script, Status>
 }
 
 /// What the report of the bytes is, and the line that says it.
-fn judged(alloc: Global, bytes: &[u8]) -> Result<(Judgement, Vec<u8>), Status>
+pub fn judged(alloc: Global, bytes: &[u8]) -> Result<(Judgement, Vec<u8>), Status>
     requires { length bytes.now ≤ longest }
     ensures judged { IfOk result (λ found. IsJudged bytes.now found.0
         × (found.1.items ≡ verdict_text found.0)) }

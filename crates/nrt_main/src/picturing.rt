@@ -1,12 +1,16 @@
 //! The commands that show a run as a picture, in rows of text or as a drawing.
 
-ghost use Rattle.std.specs.Prelude.{◌≡◌, ◌≢◌, ◌≤◌, ◌<◌, ◌^◌, ◌-◌, ℕ, length, IfOk};
+ghost use Rattle.std.specs.Prelude.{◌≡◌, ◌≢◌, ◌≤◌, ◌<◌, ◌^◌, ◌-◌, ℕ, length, IfOk, IfErr};
 ghost use Rattle.nrt_base.specs.Causes.{Rose};
 ghost use Rattle.script_serving.specs.Form.{IsInForm};
+ghost use Rattle.script_text.specs.Refused.{IsFirstRefused};
 ghost use Rattle.cluster_run.specs.Built.{IsPlainScript};
-ghost use Rattle.nrt_main.specs.Headline.{RefusesLine, IsAnswer, Refuses, AnswersWhole, TakesWithin, TakesMore, longest};
-ghost use Rattle.nrt_main.specs.Pictures.{picture_by, ShowsScript, Shows, ShowsInPart, Showed, ShowedInPart};
+ghost use Rattle.report_judge.specs.Sources.{script_part};
+ghost use Rattle.nrt_main.specs.Headline.{RefusesLine, IsAnswer, TakesWithin, TakesMore, longest};
+ghost use Rattle.nrt_main.specs.Judge.{TellsIllegal, IsScriptRefusal, IsJudgeAnswer, FoundIllegal};
+ghost use Rattle.nrt_main.specs.Pictures.{picture_by, ShowsScript, Shows, ShowsInPart, has_report as has_report_lem, ShowsJudged, WritesReport, WritesReportInPart, ShowsSource, ShowsSourceInPart, RefusesSource, IsShowAnswer, Showed, ShowedInPart, RefusesShown, AnswersShown};
 
+use crate::judging::judged;
 use crate::reading::{ReadEnd, read_all};
 use crate::status::Status;
 use crate::top::read_script;
@@ -15,6 +19,7 @@ use cluster_run::{Gate, run_script};
 use history_rules::Entry;
 use nrt_base::{LineNo, NoMemory};
 use nrt_streams::{Sink, Source};
+use report_judge::{Judgement, cut_source};
 use run_drawing::drawing;
 use run_picture::picture;
 use script_serving::Script;
@@ -59,9 +64,73 @@ fn show_run<R: Threads + Wait + Sync, G: Gate + Sync>(
     Ok(text)
 }
 
+/// Whether the bytes have a line that is the word `report` alone.
+fn has_report(bytes: &[u8]) -> bool
+    ensures { result ≡ has_report_lem bytes.now }
+{
+    cut_source(bytes).script.len() < bytes.len()
+}
+
+/// What is shown of the report of the bytes, or the line that says where it goes wrong; and whether it is legal.
+fn show_judged(alloc: Global, kind: PictureKind, bytes: &[u8]) -> Result<(Vec<u8>, bool), Status>
+    requires { length bytes.now ≤ longest }
+    ensures shown { IfOk result (λ found.
+        ShowsJudged (picture_by kind) bytes.now found.1 found.0.items) }
+    ensures refusal { IfErr result (IsScriptRefusal (script_part bytes.now)) }
+{
+    let (judgement, line) = match judged(alloc, bytes) {
+        Ok(found) => found,
+        Err(status) => return Err(status),
+    };
+    match &judgement {
+        Judgement::Legal(history) => {
+            match show(alloc, kind, history.nodes, history.entries.as_slice()) {
+                Ok(text) => Ok((text, true)),
+                Err(_) => Err(Status::Memory),
+            }
+        }
+        _ => Ok((line, false)),
+    }
+}
+
+/// Writes what is shown of the report of the bytes, or the line that says where it goes wrong.
+#[tactic(auto, using(crate::proofs::Shown::writes_report, crate::proofs::Shown::tells_wrong, crate::proofs::Shown::writes_front, crate::proofs::Shown::shown_answer, crate::proofs::JudgeAnswers::refused_answer))]
+fn show_report<K: Sink>(alloc: Global, kind: PictureKind, bytes: &[u8], sink: &mut K) -> Status
+    requires { length bytes.now ≤ longest }
+    ensures done { result ≡ Status.Done → WritesReport (picture_by kind) bytes.now
+        (K.held sink.old) (K.held sink.new) }
+    ensures wrong { result ≡ Status.BadReport → TellsIllegal bytes.now (K.held sink.old)
+        (K.held sink.new) }
+    ensures part { result ≡ Status.WriteFault → WritesReportInPart (picture_by kind) bytes.now
+        (K.held sink.old) (K.held sink.new) }
+    ensures bad { (n : LineNo) (cause : LineFault) → result ≡ Status.BadScript n cause
+        → IsFirstRefused (script_part bytes.now) n.0 cause }
+    ensures answers { result ≢ Status.Memory → IsJudgeAnswer bytes.now result }
+    ensures write { result ≡ Status.WriteFault → Rose (K.fault_count sink.old)
+        (K.fault_count sink.new) }
+    ensures kept { result ≢ Status.Done → result ≢ Status.BadReport → result ≢ Status.WriteFault
+        → sink.new ≡ sink.old }
+    ensures others { (result ≢ Status.Usage) × (result ≢ Status.ReadFault) ×
+        (result ≢ Status.TooLarge) × (result ≢ Status.BadIndex) × (result ≢ Status.BadImage) ×
+        ((k : ℕ) → result ≢ Status.BadStream k) }
+{
+    let (text, legal) = match show_judged(alloc, kind, bytes) {
+        Ok(found) => found,
+        Err(status) => return status,
+    };
+    match write_all(sink, text.as_slice()) {
+        Ok(()) => if legal {
+            Status::Done
+        } else {
+            Status::BadReport
+        },
+        Err(_) => Status::WriteFault,
+    }
+}
+
 /// Runs the script that the bytes are, and writes what is shown of its run.
 #[tactic(auto, using(crate::proofs::BuiltScripts::is_built_script, crate::proofs::Shown::shows_whole, crate::proofs::Shown::shows_front, crate::proofs::AnswerLaws::run_answer, crate::proofs::AnswerLaws::refusal_answer))]
-fn show_bytes<R: Threads + Wait + Sync, K: Sink, G: Gate + Sync>(
+fn show_script<R: Threads + Wait + Sync, K: Sink, G: Gate + Sync>(
     rt: &R,
     alloc: Global,
     gate: &G,
@@ -82,7 +151,7 @@ fn show_bytes<R: Threads + Wait + Sync, K: Sink, G: Gate + Sync>(
     ensures kept { result ≢ Status.Done → result ≢ Status.WriteFault → sink.new ≡ sink.old }
     ensures others { (result ≢ Status.Usage) × (result ≢ Status.ReadFault) ×
         (result ≢ Status.TooLarge) × (result ≢ Status.BadIndex) × (result ≢ Status.BadImage) ×
-        ((k : ℕ) → result ≢ Status.BadStream k) }
+        (result ≢ Status.BadReport) × ((k : ℕ) → result ≢ Status.BadStream k) }
 {
     let script = match read_script(alloc, bytes) {
         Ok(script) => script,
@@ -97,7 +166,42 @@ fn show_bytes<R: Threads + Wait + Sync, K: Sink, G: Gate + Sync>(
     }
 }
 
-/// Reads a script from the source, runs it, and writes what is shown of its run to the sink.
+/// Writes what is shown of the bytes: of a run of the script that they are, or, where they have a report, of that.
+#[tactic(auto, using(crate::proofs::Shown::by_script, crate::proofs::Shown::by_report))]
+fn show_bytes<R: Threads + Wait + Sync, K: Sink, G: Gate + Sync>(
+    rt: &R,
+    alloc: Global,
+    gate: &G,
+    kind: PictureKind,
+    bytes: &[u8],
+    sink: &mut K,
+) -> Status
+    requires long { length bytes.now ≤ longest }
+    ensures done { result ≡ Status.Done
+        → ShowsSource (picture_by kind) bytes.now (K.held sink.old) (K.held sink.new) }
+    ensures wrong { result ≡ Status.BadReport → TellsIllegal bytes.now (K.held sink.old)
+        (K.held sink.new) }
+    ensures part { result ≡ Status.WriteFault
+        → ShowsSourceInPart (picture_by kind) bytes.now (K.held sink.old) (K.held sink.new) }
+    ensures bad { (n : LineNo) (cause : LineFault) → result ≡ Status.BadScript n cause
+        → RefusesSource bytes.now n.0 cause }
+    ensures answers { result ≢ Status.Memory → IsShowAnswer bytes.now result }
+    ensures write { result ≡ Status.WriteFault → Rose (K.fault_count sink.old)
+        (K.fault_count sink.new) }
+    ensures kept { result ≢ Status.Done → result ≢ Status.BadReport → result ≢ Status.WriteFault
+        → sink.new ≡ sink.old }
+    ensures others { (result ≢ Status.Usage) × (result ≢ Status.ReadFault) ×
+        (result ≢ Status.TooLarge) × (result ≢ Status.BadIndex) × (result ≢ Status.BadImage) ×
+        ((k : ℕ) → result ≢ Status.BadStream k) }
+{
+    if has_report(bytes) {
+        show_report(alloc, kind, bytes, sink)
+    } else {
+        show_script(rt, alloc, gate, kind, bytes, sink)
+    }
+}
+
+/// Reads a script from the source, alone or with a report, and writes what is shown of its run or of the report to the sink.
 pub fn show_source<R: Threads + Wait + Sync, S: Source, K: Sink, G: Gate + Sync>(
     rt: &R,
     alloc: Global,
@@ -110,18 +214,21 @@ pub fn show_source<R: Threads + Wait + Sync, S: Source, K: Sink, G: Gate + Sync>
     requires writes { K.fault_count sink.old < 2 ^ 64 - 1 }
     ensures done { result ≡ Status.Done → Showed (picture_by kind) (S.left source.old)
         (S.left source.new) (K.held sink.old) (K.held sink.new) }
+    ensures wrong { result ≡ Status.BadReport → FoundIllegal (S.left source.old)
+        (S.left source.new) (K.held sink.old) (K.held sink.new) }
     ensures part { result ≡ Status.WriteFault → ShowedInPart (picture_by kind) (S.left source.old)
         (S.left source.new) (K.held sink.old) (K.held sink.new) }
-    ensures bad { (n : LineNo) (cause : LineFault) → result ≡ Status.BadScript n cause → Refuses
-        (S.left source.old) (S.left source.new) n.0 cause }
+    ensures bad { (n : LineNo) (cause : LineFault) → result ≡ Status.BadScript n cause
+        → RefusesShown (S.left source.old) (S.left source.new) n.0 cause }
     ensures answers { result ≢ Status.ReadFault → result ≢ Status.TooLarge → result ≢ Status.Memory
-        → AnswersWhole (S.left source.old) (S.left source.new) result }
+        → AnswersShown (S.left source.old) (S.left source.new) result }
     ensures read { result ≡ Status.ReadFault → S.fault_count source.old < S.fault_count source.new }
     ensures write { result ≡ Status.WriteFault → K.fault_count sink.old < K.fault_count sink.new }
     ensures large { result ≡ Status.TooLarge → TakesMore (S.left source.old) (S.left source.new) }
     ensures small { result ≢ Status.TooLarge → result ≢ Status.Memory
         → TakesWithin (S.left source.old) (S.left source.new) }
-    ensures kept { result ≢ Status.Done → result ≢ Status.WriteFault → sink.new ≡ sink.old }
+    ensures kept { result ≢ Status.Done → result ≢ Status.BadReport → result ≢ Status.WriteFault
+        → sink.new ≡ sink.old }
     ensures others { (result ≢ Status.Usage) × (result ≢ Status.BadIndex) ×
         (result ≢ Status.BadImage) × ((k : ℕ) → result ≢ Status.BadStream k) }
 {

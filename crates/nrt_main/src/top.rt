@@ -13,7 +13,7 @@ ghost use Rattle.nrt_main.specs.Judge.{IsJudge, RanJudge, FoundIllegal, RanJudge
 ghost use Rattle.nrt_main.specs.Load.{IsLoad, IsLoadOf, LeavesSummary, LeavesSummaryInPart, IsLoadAnswer};
 ghost use Rattle.run_picture.specs.Picture.{picture_of};
 ghost use Rattle.run_drawing.specs.Drawing.{drawing_of};
-ghost use Rattle.nrt_main.specs.Pictures.{IsPicture, IsDrawing, IsShowing, Showed, ShowedInPart};
+ghost use Rattle.nrt_main.specs.Pictures.{IsPicture, IsDrawing, IsShowing, Showed, ShowedInPart, RefusesShown, AnswersShown, OffersShown};
 ghost use Rattle.nrt_main.specs.Rows.{IsKnownRow};
 ghost use Rattle.nrt_main.specs.TopCalls.{IsRefusal, IsReport, LeavesText, LeavesFront};
 
@@ -253,10 +253,11 @@ fn frames_source<S: Source, K: Sink>(alloc: Global, source: &mut S, sink: &mut K
 /// says that it goes wrong, and the sink gained the line that says where and why.
 ///
 /// `picture`: it runs a script as `run` does, and writes a row for each entry of its history to the sink, with what the entries up to it
-/// show of each node. `picture svg` writes the drawing of that history. Both leave no cluster in `kept`.
+/// show of each node. `picture svg` writes the drawing of that history. Behind a line `report` they read a report, which is judged and shown
+/// in place of a run; where it goes wrong the sink gains the line that says where and why. Both leave no cluster in `kept`.
 ///
 /// On every answer but `Done`, `WriteFault`, `BadIndex` and `BadReport` the sink is as before.
-#[tactic(auto, using(crate::proofs::Loads::one_word, crate::proofs::Loads::no_word, crate::proofs::Loads::takes_none, crate::proofs::Complete::script_done, crate::proofs::Complete::load_done))]
+#[tactic(auto, using(crate::proofs::Loads::one_word, crate::proofs::Loads::no_word, crate::proofs::Loads::takes_none, crate::proofs::Complete::script_done, crate::proofs::Complete::shown_done, crate::proofs::Complete::load_done))]
 pub fn run_nrt<R: Threads + Wait + Sync, S: Source, K: Sink, G: Gate + Sync>(
     rt: &R,
     alloc: Global,
@@ -350,12 +351,14 @@ pub fn run_nrt<R: Threads + Wait + Sync, S: Source, K: Sink, G: Gate + Sync>(
         (S.left source.old) (S.left source.new) (K.held sink.old) (K.held sink.new) }
     ensures drawing_part { IsDrawing words.now → result ≡ Status.WriteFault → ShowedInPart drawing_of
         (S.left source.old) (S.left source.new) (K.held sink.old) (K.held sink.new) }
+    ensures shows_wrong { IsShowing words.now → result ≡ Status.BadReport → FoundIllegal
+        (S.left source.old) (S.left source.new) (K.held sink.old) (K.held sink.new) }
     ensures shows_bad { (n : LineNo) (cause : LineFault) → IsShowing words.now
         → result ≡ Status.BadScript n cause
-        → Refuses (S.left source.old) (S.left source.new) n.0 cause }
+        → RefusesShown (S.left source.old) (S.left source.new) n.0 cause }
     ensures shows_answers { IsShowing words.now → result ≢ Status.ReadFault
         → result ≢ Status.TooLarge → result ≢ Status.Memory
-        → AnswersWhole (S.left source.old) (S.left source.new) result }
+        → AnswersShown (S.left source.old) (S.left source.new) result }
 
     // Where no read and no write failed, and the source has left what is asked for, all is done, or memory ran out.
     ensures complete { IsRun words.now → OffersScript (S.left source.old)
@@ -367,7 +370,7 @@ pub fn run_nrt<R: Threads + Wait + Sync, S: Source, K: Sink, G: Gate + Sync>(
     ensures check_complete { IsCheck words.now → OffersImage (S.left source.old)
         → NoneFailed (S.fault_count source.old) (S.fault_count source.new)
         (K.fault_count sink.old) (K.fault_count sink.new) → IsCheckedOrMemory result }
-    ensures shows_complete { IsShowing words.now → OffersScript (S.left source.old)
+    ensures shows_complete { IsShowing words.now → OffersShown (S.left source.old)
         → NoneFailed (S.fault_count source.old) (S.fault_count source.new)
         (K.fault_count sink.old) (K.fault_count sink.new) → IsDoneOrMemory result }
     ensures load_complete { IsLoad words.now

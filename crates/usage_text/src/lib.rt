@@ -75,7 +75,7 @@ fn program<'a>(alloc: Global) -> Result<Command<'a>, AllocError> {
         alloc,
         "picture",
         "nrt picture [svg] < SCRIPT",
-        "Run the script on standard input; write a picture of the run, or a drawing (svg)",
+        "Run the script on standard input, or judge the report behind it; write a picture, or a drawing (svg)",
     );
     let form = Arg::new(alloc, "svg").value_parser(FORMS);
     Command::new(alloc, "nrt")
