@@ -1,3 +1,4 @@
+mod AskedLaws
 mod KnownLaws
 pub mod WalkLemmas
 mod HitLemmas

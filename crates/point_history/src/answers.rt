@@ -1,15 +1,17 @@
 //! The rule of a search's answer: the hits that the documents of its point give.
 
-ghost use Rattle.std.specs.Prelude.{◌≡◌, ◌<◌, ◌^◌, ◌↔◌, reverse, IfOk, IsTrue};
+ghost use Rattle.std.specs.Prelude.{◌≡◌, ◌<◌, ◌^◌, ◌↔◌, reverse, IfOk, OnOk, IsTrue};
 ghost use Rattle.documents.specs.Ranking.{first_rank, scan_of};
 ghost use Rattle.history_rules.specs.Nodes.{accepted_count};
 ghost use Rattle.history_rules.specs.Lines.{start_entry};
 ghost use Rattle.history_rules.specs.Points.{documents_at};
 ghost use Rattle.history_rules.specs.Rules.{MayAnswer};
 ghost use Rattle.history_rules.specs.Started.{StartedSearch};
+ghost use Rattle.point_history.specs.Asked.{IsAsked};
 
+use crate::asked::Asked;
 use documents::{Answer, Hit, Query, scan_if_told};
-use history_facts::{documents_at, is_node, node_survives, start_entry};
+use history_facts::{is_node, node_survives, start_entry};
 use history_rules::{Entry, Event};
 use nrt_base::{At, NoMemory, NodeNo, TicketNo, Version};
 use std::alloc::Global;
@@ -54,15 +56,18 @@ fn read_first_rank(answer: &Answer)
 fn is_right(
     alloc: Global,
     entries: &[Entry],
+    asked: &mut Asked,
     v: Version,
     query: &Query,
     answer: &Answer,
 ) -> Result<bool, NoMemory>
-    requires { accepted_count (reverse entries.now) < 2 ^ 32 }
-    ensures { IfOk result (λ right.
+    requires few { accepted_count (reverse entries.now) < 2 ^ 32 }
+    requires asked { IsAsked (reverse entries.now) asked.old }
+    ensures right { IfOk result (λ right.
         IsTrue right ↔ (answer.now ≡ scan_of (documents_at (reverse entries.now) v.0) query.now)) }
+    ensures asked { OnOk result (IsAsked (reverse entries.now) asked.new) }
 {
-    let docs = documents_at(alloc, entries, v)?;
+    let docs = asked.documents(alloc, entries, v)?;
     match scan_if_told(alloc, docs.as_slice(), query)? {
         Some(right) => Ok(same_answer(answer, &right)),
         None => {
@@ -76,6 +81,7 @@ pub(crate) fn may_answer(
     alloc: Global,
     nodes: u8,
     entries: &[Entry],
+    asked: &mut Asked,
     at: At,
     n: NodeNo,
     t: TicketNo,
@@ -83,9 +89,11 @@ pub(crate) fn may_answer(
     query: &Query,
     answer: &Answer,
 ) -> Result<bool, NoMemory>
-    requires { accepted_count (reverse entries.now) < 2 ^ 32 }
-    ensures { IfOk result (λ may.
+    requires few { accepted_count (reverse entries.now) < 2 ^ 32 }
+    requires asked { IsAsked (reverse entries.now) asked.old }
+    ensures rule { IfOk result (λ may.
         IsTrue may ↔ MayAnswer nodes (reverse entries.now) at n t v query.now answer.now) }
+    ensures asked { OnOk result (IsAsked (reverse entries.now) asked.new) }
 {
     if !is_node(nodes, n)
         || !started_search(n, t, v, at, entries)
@@ -93,5 +101,5 @@ pub(crate) fn may_answer(
     {
         return Ok(false);
     }
-    is_right(alloc, entries, v, query, answer)
+    is_right(alloc, entries, asked, v, query, answer)
 }

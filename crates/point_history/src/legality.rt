@@ -1,12 +1,14 @@
 //! Whether a history is legal, and which entry is the first that breaks a rule.
 
-ghost use Rattle.std.specs.Prelude.{◌≡◌, ◌<◌, ◌+◌, ◌^◌, ◌∷◌, ◌↔◌, reverse, length, IfOk, IsTrue};
+ghost use Rattle.std.specs.Prelude.{◌≡◌, ◌<◌, ◌+◌, ◌^◌, ◌∷◌, ◌↔◌, reverse, length, IfOk, OnOk, IsTrue};
 ghost use Rattle.history_rules.specs.Nodes.{accepted_count};
 ghost use Rattle.history_facts.specs.Generations.{ShowsGeneration, ShowsDrawn};
+ghost use Rattle.point_history.specs.Asked.{IsAsked};
 ghost use Rattle.point_history.specs.Known.{IsKnown};
 ghost use Rattle.history_rules.specs.Legal.{KeepsRule, rule_number, IsVerdict};
 
 use crate::answers::may_answer;
+use crate::asked::Asked;
 use crate::fault_rules::may_fault;
 use crate::knowing::KnownPast;
 use crate::listings::may_list_files;
@@ -59,17 +61,20 @@ fn keeps(
     known: &KnownPast,
     generation: &Generation,
     drawn: &Drawn,
+    asked: &mut Asked,
     entry: &Entry,
 ) -> Result<bool, NoMemory>
     requires known { IsKnown (reverse before.now) known.now }
     requires shown { ShowsGeneration (reverse before.now) generation.now }
     requires drawn { ShowsDrawn (reverse before.now) drawn.now }
+    requires asked { IsAsked (reverse before.now) asked.old }
     requires few { length before.now + 1 < 2 ^ 64 }
     requires few_accepted { accepted_count (reverse before.now) < 2 ^ 32 }
     ensures rule { IfOk result (λ kept. IsTrue kept ↔
         KeepsRule nodes (reverse before.now) entry.now.at entry.now.event) }
     ensures few { IfOk result (λ kept. IsTrue kept →
         accepted_count (entry.now ∷ reverse before.now) < 2 ^ 32) }
+    ensures asked { OnOk result (IsAsked (reverse before.now) asked.new) }
 {
     let at = entry.at;
     Ok(match &entry.event {
@@ -92,7 +97,7 @@ fn keeps(
             v,
             query,
             answer,
-        } => may_answer(alloc, nodes, before, at, *n, *t, *v, query, answer)?,
+        } => may_answer(alloc, nodes, before, asked, at, *n, *t, *v, query, answer)?,
         Event::Closed { n, t } => may_close(nodes, before, at, *n, *t),
         Event::Committing { n, v } => may_start_commit(nodes, before, at, *n, *v),
         Event::Committed { n, v } => may_commit(nodes, before, at, *n, *v),
@@ -125,9 +130,19 @@ pub fn legal(alloc: Global, h: &History) -> Result<Verdict, NoMemory>
     let mut known = KnownPast::new(alloc);
     let mut generation = Generation::first();
     let mut drawn = Drawn::new(alloc);
+    let mut asked = Asked::new(alloc);
     for (at, entry) in entries.iter().enumerate() {
         let before = &entries[..at];
-        if !keeps(alloc, h.nodes, before, &known, &generation, &drawn, entry)? {
+        if !keeps(
+            alloc,
+            h.nodes,
+            before,
+            &known,
+            &generation,
+            &drawn,
+            &mut asked,
+            entry,
+        )? {
             return Ok(Verdict::Broken {
                 at,
                 rule: rule_number(&entry.event),
@@ -136,6 +151,7 @@ pub fn legal(alloc: Global, h: &History) -> Result<Verdict, NoMemory>
         known = known.after(before, entry)?;
         generation = generation.after(before, entry);
         note_drawn(&mut drawn, &generation)?;
+        asked.take(before, entry)?;
     }
     Ok(Verdict::Legal)
 }

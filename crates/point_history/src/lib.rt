@@ -2,6 +2,7 @@
 #![tactic(auto)]
 
 mod answers;
+mod asked;
 mod counting;
 mod fault_rules;
 mod knowing;

@@ -5,8 +5,8 @@ use Rattle.documents.specs.Ranking.{is_too_high}
 use Rattle.documents.proofs.RankLemmas.{not_told}
 use Rattle.point_history.proofs.answers.is_right.Goals as goal
 
-pub returns : goal.returns
-returns c =
+pub returns-clause-right : goal.returns-clause-right
+returns-clause-right c =
     let high = rw c.in-None.is at c.in_ok-right.ensures in
     let same_docs = c.as_slice.ensures.value ∙ c.in_ok-docs.ensures.documents in (
       λ e. absurd cc,

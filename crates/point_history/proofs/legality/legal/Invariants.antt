@@ -3,6 +3,7 @@ use Rattle.std.specs.Prelude.{reverse}
 use Rattle.history_rules.specs.Nodes.{accepted_count}
 use Rattle.history_facts.specs.Generations.{ShowsGeneration, ShowsDrawn}
 use Rattle.history_rules.specs.Legal.{IsLegalPast}
+use Rattle.point_history.specs.Asked.{IsAsked}
 use Rattle.point_history.specs.Known.{IsKnown}
 use Rattle.point_history.proofs.legality.legal.Given as goal
 
@@ -12,5 +13,6 @@ invariant-loop-at l = record {
   known : IsKnown (reverse (take l.at l.entries)) l.known;
   shown : ShowsGeneration (reverse (take l.at l.entries)) l.generation;
   drawn : ShowsDrawn (reverse (take l.at l.entries)) l.drawn;
+  asked : IsAsked (reverse (take l.at l.entries)) l.asked;
   few : accepted_count (reverse (take l.at l.entries)) < 2 ^ 32;
 }
