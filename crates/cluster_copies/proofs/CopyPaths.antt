@@ -1,21 +1,16 @@
 -- Jobs that begin for copies and settles, in the terms of a call.
-use Rattle.std.proofs.Common.{◌≡◌, ◌≢◌, ◌≤◌, ◌<◌, ◌^◌, ℕ, Bool, true, false, List, ◌∷◌, Some, None, Option, refl, ap, ◌∙◌, sym, subst, arith, if◌then◌else◌, length}
-use Rattle.std.specs.Prelude.{IsSomeAnd, Contains}
-use Rattle.std.specs.List.{flat_map}
+use Rattle.std.proofs.Common.{◌≡◌, ◌≢◌, ◌<◌, ℕ, Bool, true, false, List, ◌∷◌, Some, None, Option, refl, ap, ◌∙◌, sym, subst, arith, if◌then◌else◌, length}
+use Rattle.std.specs.Prelude.{IsSomeAnd}
 use Rattle.std.proofs.lemmas.Bool.{eq-eqb}
 use Rattle.nrt_base.specs.declared.numbers.At.{At}
 use Rattle.nrt_base.specs.declared.numbers.NodeNo.{NodeNo}
 use Rattle.nrt_base.specs.declared.numbers.Version.{Version}
 use Rattle.nrt_base.specs.declared.numbers.Gen.{Gen}
 use Rattle.disk_model.specs.Disk.{Name, Content, Cells}
-use Rattle.segment_infos.specs.declared.infos.Infos.{Infos}
-use Rattle.segment_infos.specs.Files.{files_of_segment, AreFilesOf}
 use Rattle.index_primary.specs.declared.states.Out.{Out}
-use Rattle.replica_opening.specs.Known.{IsLasting}
-use Rattle.replica_node.specs.declared.job.PointJob.{PointJob}
 use Rattle.replica_node.specs.declared.parts.ReplicaParts.{ReplicaParts}
 use Rattle.history_rules.specs.declared.entry.Event.{Event}
-use Rattle.history_rules.specs.declared.entry.Event.TheVariants.{Copying, Settling}
+use Rattle.history_rules.specs.declared.entry.Event.TheVariants.{Publishing, Copying, Settling}
 use Rattle.history_rules.specs.Nodes.{Past, IsNode, IsReplica, is_at, primary_of, primary_crashes, crashes, generation_of, newest_version, version_of}
 use Rattle.history_rules.specs.Lines.{same_at, start_entry, before_start, copy_in_flight, is_free_for, highest_switched, NodeSurvives, SourceSurvives}
 use Rattle.history_rules.specs.Legal.{KeepsRule, IsLegalPast}
@@ -31,8 +26,7 @@ use Rattle.merge_tasks.specs.Merging.{Sheet}
 use Rattle.history_book.specs.declared.inner.Inner.{Inner}
 use Rattle.history_book.specs.declared.inner.Inner.TheVariants.{JobBegun}
 use Rattle.history_book.specs.Jobs.{last_job, job_at, job_of, IsOlder, StartsJob, MayBeginJob}
-use Rattle.history_book.specs.Turns.{InTurn, AreInTurn}
-use Rattle.history_book.specs.Laws.{IsFresh}
+use Rattle.history_book.specs.Turns.{InTurn, AreInTurn, IsUnbegun}
 use Rattle.history_book.proofs.ReignLaws.{start_kept}
 use Rattle.history_book.proofs.JobLaws.{newest_before}
 use Rattle.cluster_nodes.specs.declared.nodes.Node.TheVariants.{Primary, Replica}
@@ -41,7 +35,7 @@ use Rattle.cluster_state.specs.Run.{Rest, Run, files_at}
 use Rattle.cluster_nodes.specs.Places.{place_of, HasPrimary}
 use Rattle.cluster_state.specs.State.{Shows}
 use Rattle.cluster_nodes.specs.Outs.{jobs_like}
-use Rattle.cluster_state.specs.Files.{JobShows, IsJobFor, ReplicaFiles, FilesShow}
+use Rattle.cluster_state.specs.Files.{IsJobFor, ReplicaFiles, FilesShow}
 use Rattle.cluster_nodes.specs.JobChanges.{HasReplica}
 use Rattle.cluster_nodes.specs.JobPlaces.{CanBegin, BeginsIn}
 use Rattle.cluster_state.specs.Copies.{newest_of, TakesOver, BeginsJob}
@@ -49,7 +43,7 @@ use Rattle.cluster_state.specs.Settles.{WaitsFor}
 use Rattle.cluster_state.proofs.Naming.{FilesLast}
 use Rattle.cluster_state.proofs.Frames.{some_at, was, now_is, slot_of, place_shows, shows_still, start_back}
 use Rattle.cluster_state.proofs.Growing.{same, fewer, not_flying}
-use Rattle.cluster_state.proofs.Turning.{fresh_line}
+use Rattle.std.proofs.lemmas.Option.{none-some}
 use Rattle.cluster_state.proofs.FileFrames.{both_of, Both, files_was, files_is, before}
 use Rattle.cluster_state.proofs.FileJobs.{PrimaryHere, ReplicaHere, primary_here, replica_here, job_out, no_flight}
 use Rattle.cluster_state.proofs.JobMoves.{shows_kept, shows_both, primary_place, replica_place}
@@ -224,7 +218,7 @@ module _ {D : Type 0} (cells : D → Cells) where
       → {left : Rest} → record { ended = ended; nodes = b0.nodes; log = b0.log; rest = left } ≡ r → r.ended ≡ false → (ended ≡ false → Shows cells b0.log b0.nodes old × FilesShow cells b0.log b0.nodes old)
       → b1.log ≡ b0.log → b1.nodes ≡ b0.nodes → b2.log ≡ shown at (Copying n v) ∷ b1.log → b2.nodes ≡ b1.nodes → IsLegalPast b1.nodes (printed b1.log) → AreInTurn (printed b1.log)
       → b3.log ≡ kept (JobBegun at.line n number (Some v) (Some at)) ∷ b2.log → b3.nodes ≡ b2.nodes
-      → FilesLast → IsFresh at (printed r.log) → KeepsRule r.nodes (printed r.log) at (Copying n v) → IsNode r.nodes p.0 → IsNode r.nodes n.0 → primary_of (printed r.log) ≡ Some p
+      → FilesLast → IsUnbegun at (printed r.log) → KeepsRule r.nodes (printed r.log) at (Copying n v) → IsNode r.nodes p.0 → IsNode r.nodes n.0 → primary_of (printed r.log) ≡ Some p
       → version_of n.0 (printed r.log) < newest_version (printed r.log) → IsOlder (newest_version (printed r.log)) (job_at n.0 r.log) → BeginsIn cells p.0 n.0 number old new
       → Shows cells b3.log b3.nodes new × FilesShow cells b3.log b3.nodes new
   copy_path r ended b0 b1 b2 b3 old new at p n v number view running pair e1 n1 e2 n2 legal turns e3 n3 lasting fresh rule node_p node_n primary behind older b =
@@ -233,11 +227,11 @@ module _ {D : Type 0} (cells : D → Cells) where
       let bf = before cells r ended b0 b1 view e1 n1 legal turns in
       let i : Inner = JobBegun at.line n number (Some v) (Some at) in
       let mid : Log = shown at (Copying n v) ∷ r.log in
-      let turn : InTurn (printed r.log) at (Copying n v) = record { once = record { begun = fresh.begun; replied = fresh.replied }; flight = tt } in
+      let turn : InTurn (printed r.log) at (Copying n v) = record { once = fresh; flight = tt } in
       let v_is : v.0 ≡ newest_version (printed r.log) = rule.newest in
       let behind_v : version_of n.0 (printed r.log) < v.0 = omega (arith, behind, v_is) in
       let older_v : IsOlder v.0 (job_at n.0 r.log) = subst (λ (w : ℕ). IsOlder w (job_at n.0 r.log)) (sym v_is) older in
-      let apart = not_flying r.nodes (printed r.log) at bf.legal bf.turns (fresh_line (printed r.log) at fresh) in
+      let apart = not_flying r.nodes (printed r.log) at bf.legal bf.turns (λ (is : start_entry at (printed r.log) ≡ Some Publishing). none-some Publishing (sym fresh.begun ∙ is)) in
       let log_now : b3.log ≡ kept i ∷ mid = e3 ∙ ap (λ (l : Log). kept i ∷ l) (e2 ∙ ap (λ (l : Log). shown at (Copying n v) ∷ l) bf.log) in
       let size_now : b3.nodes ≡ r.nodes = n3 ∙ (n2 ∙ bf.size) in
       let moved = begun_places r.log r.nodes old new p n number s f node_p node_n b in
@@ -315,16 +309,18 @@ settle_turn r b at n v w log size is_open started source waits newest older =
 
 -- ---- answers
 
-pub copy_begun : (r now : Run) (at : At) (n : NodeNo) (v : Version) (number : ℕ) → now.ended ≡ false → now.nodes ≡ r.nodes → IsNode r.nodes n.0 → v ≡ newest_of (printed r.log)
-    → now.log ≡ kept (JobBegun at.line n number (Some v) (Some at)) ∷ shown at (Copying n v) ∷ r.log
-    → TakesOver (generation_of (printed r.log)) (files_at n.0 r) (files_at n.0 now) → BeginsJob at n r now (shown at (Copying n (newest_of (printed r.log))) ∷ r.log) (record { node = n; job = number; line = at.line })
-copy_begun r now at n v number running size node newest log takes =
+-- a copy began a job behind these entries
+pub copy_begun : (r now : Run) (met : Log) (at : At) (n : NodeNo) (v : Version) (number : ℕ) → now.ended ≡ false → now.nodes ≡ r.nodes → IsNode r.nodes n.0 → v ≡ newest_of (printed r.log)
+    → now.log ≡ kept (JobBegun at.line n number (Some v) (Some at)) ∷ shown at (Copying n v) ∷ met
+    → TakesOver (generation_of (printed r.log)) (files_at n.0 r) (files_at n.0 now) → BeginsJob at n r now (shown at (Copying n (newest_of (printed r.log))) ∷ met) (record { node = n; job = number; line = at.line })
+copy_begun r now met at n v number running size node newest log takes =
     let w : Version = newest_of (printed r.log) in
-    begins_copying r now (shown at (Copying n w) ∷ r.log) at n number running size (log ∙ ap (λ (x : Version). kept (JobBegun at.line n number (Some x) (Some at)) ∷ shown at (Copying n x) ∷ r.log) newest)
-    (copy_open (printed r.log) at n w) (let none = copy_switched (printed r.log) at n w in let some = node.0 in omega (arith, none, some))
-    (record { node = ap (crashes n.0) (sym (copy_before (printed r.log) at n w)) }) (record { source = ap primary_crashes (sym (copy_before (printed r.log) at n w)) }) takes
+    begins_copying r now (shown at (Copying n w) ∷ met) at n number running size (log ∙ ap (λ (x : Version). kept (JobBegun at.line n number (Some x) (Some at)) ∷ shown at (Copying n x) ∷ met) newest)
+    (copy_open (printed met) at n w) (let none = copy_switched (printed met) at n w in let some = node.0 in omega (arith, none, some))
+    (record { node = ap (crashes n.0) (sym (copy_before (printed met) at n w)) }) (record { source = ap primary_crashes (sym (copy_before (printed met) at n w)) }) takes
 
-pub settle_job_begun : (r now : Run) (at : At) (n : NodeNo) (v w : Version) (number : ℕ) → now.ended ≡ false → now.nodes ≡ r.nodes → v ≡ newest_of (printed r.log) → now.log ≡ kept (JobBegun at.line n number (Some v) (Some at)) ∷ r.log
-    → open_line at (printed r.log) ≢ None → WaitsFor r.nodes (printed r.log) at w.0 n → SourceSurvives (printed r.log) at → TakesOver (generation_of (printed r.log)) (files_at n.0 r) (files_at n.0 now) → BeginsJob at n r now r.log (record { node = n; job = number; line = at.line })
-settle_job_begun r now at n v w number running size newest log is_open waits source takes =
-    begins_copying r now r.log at n number running size (log ∙ ap (λ (x : Version). kept (JobBegun at.line n number (Some x) (Some at)) ∷ r.log) newest) is_open waits.ordered waits.survives source takes
+-- and so did a settle
+pub settle_job_begun : (r now : Run) (met : Log) (at : At) (n : NodeNo) (v w : Version) (number : ℕ) → now.ended ≡ false → now.nodes ≡ r.nodes → v ≡ newest_of (printed r.log) → now.log ≡ kept (JobBegun at.line n number (Some v) (Some at)) ∷ met
+    → open_line at (printed met) ≢ None → WaitsFor r.nodes (printed met) at w.0 n → SourceSurvives (printed met) at → TakesOver (generation_of (printed r.log)) (files_at n.0 r) (files_at n.0 now) → BeginsJob at n r now met (record { node = n; job = number; line = at.line })
+settle_job_begun r now met at n v w number running size newest log is_open waits source takes =
+    begins_copying r now met at n number running size (log ∙ ap (λ (x : Version). kept (JobBegun at.line n number (Some x) (Some at)) ∷ met) newest) is_open waits.ordered waits.survives source takes

@@ -32,12 +32,13 @@ use Rattle.script_serving.specs.declared.script.LineCommand.TheVariants.{Copy}
 use Rattle.script_serving.specs.Refusals.{refusal}
 use Rattle.cluster_nodes.specs.declared.tasks.CopyTask.{CopyTask}
 use Rattle.cluster_nodes.specs.declared.tasks.FileTask.{FileTask}
-use Rattle.cluster_state.specs.Run.{Run, files_at, IsNow}
-use Rattle.cluster_state.specs.Copies.{BringsFile, IsCopying}
+use Rattle.cluster_state.specs.Run.{Run}
+use Rattle.std.proofs.lemmas.Bool.Decides.{nat_tests}
+use Rattle.cluster_state.specs.Copies.{BeginsNoJob, IsCopying}
 use Rattle.cluster_state.specs.declared.turn.Turn.{Turn}
 use Rattle.cluster_state.specs.declared.turn.Turn.TheVariants.{Work, Done, Busy}
 use Rattle.cluster_state.specs.Calls.{IsRefusedTurn}
-use Rattle.cluster_state.specs.CopyCalls.{CopyAnswered, CopyStarts, CopyStartsWhen, IsOpenJob, Stops, JobGoesOn, JobSteps, JobHasPart, PartArrives}
+use Rattle.cluster_state.specs.CopyCalls.{copying_log, CopyEnds, CopyAnswered, CopyStarts, CopyStartsWhen, IsOpenJob, Stops, JobGoesOn, JobSteps, JobTakes, PartArrives}
 use Rattle.cluster_state.proofs.Rows.{legal_at}
 
 -- what one more entry of the line leaves of a copy that is open, and has switched no node as high as its own
@@ -154,7 +155,7 @@ lost_there at past n v begun copies source start apart is starts yes' source_is 
 
 -- ---- why a line of a job is refused
 
-unswitched_job : (size : ℕ) (past : Past) (at : At) (n v : ℕ) (begun : Event) → IsLegalPast size past → StartsJob (before_start at past) n v (Some begun) → start_entry at past ≡ Some begun
+pub unswitched_job : (size : ℕ) (past : Past) (at : At) (n v : ℕ) (begun : Event) → IsLegalPast size past → StartsJob (before_start at past) n v (Some begun) → start_entry at past ≡ Some begun
     → open_line at past ≢ None → highest_switched at past < n → (is_copy begun && has_switched at past) ≡ false
 unswitched_job size past at n v (Copying m w) legal starts is line high =
     (last_started at past (Copying m w) refl (copy_newest size past at m w legal is line (subst (λ (k : ℕ). highest_switched at past < k) (sym starts.0) high))).unswitched
@@ -221,11 +222,21 @@ refused_starts at n cause old new Busy is refused = absurd refused
 
 pub refused_when : (at : At) (n : NodeNo) (cause : Cause) (old new : Run) (turn : Turn CopyTask) → refusal (Copy n) at.lane.0 (printed old.log) ≡ Some cause → IsRefusedTurn at cause old new turn → CopyStartsWhen at n old.log turn
 refused_when at n cause old new (Work task) is refused = absurd refused
-refused_when at n cause old new Done is refused = λ none. absurd (none_some (sym none ∙ is))
+refused_when at n cause old new Done is refused = λ behind. absurd (none_some (sym behind.unrefused ∙ is))
   where
     none_some : ◌≡◌ {A = Option Cause} None (Some cause) → ⊥
     none_some same = absurd (cc)
 refused_when at n cause old new Busy is refused = absurd refused
+
+-- a copy whose source failed
+pub failed_starts : (at : At) (n : NodeNo) (old new : Run) → refusal (Copy n) at.lane.0 (printed old.log) ≡ None → version_of n.0 (printed old.log) < newest_version (printed old.log)
+    → BeginsNoJob at n old new (copying_log at n old new) → CopyStarts at n old new Done
+failed_starts at n old new free behind none =
+    subst (λ (o : Option Cause). CopyAnswered at n o old new) (sym free)
+    (subst (λ (b : Bool). CopyEnds b at n old new) (sym (apart (version_of n.0 (printed old.log)) (newest_version (printed old.log)) behind)) none)
+  where
+    apart : (a b : ℕ) → a < b → (a == b) ≡ false
+    apart a b less = grind (arith, nat_tests, less)
 
 pub settle_source : (size m : ℕ) (at : At) (log l k : Log) (v : Version) (r : Bool) (o : Option NodeNo) → m ≡ size → l ≡ log → k ≡ log → IsLegalPast m (printed l) → start_entry at (printed log) ≡ Some (Settling v)
     → r ≡ true → r ≡ (primary_crashes (printed k) == primary_crashes (before_start at (printed k))) → o ≡ primary_of (printed log) → o ≢ None
@@ -238,7 +249,7 @@ settle_source size m at log l k v r o nodes same like legal start alive source i
     runs (sym (reigns_on size at past whole runs (eqb-true (primary_crashes past) (primary_crashes (before_start at past)) here)).primary ∙ (sym is ∙ none))
 
 -- a job that runs is not lost
-unlost : (past start : Past) (n v : ℕ) (begun : Event) → StartsJob start n v (Some begun) → crashes n past ≡ crashes n start → primary_crashes past ≡ primary_crashes start → is_lost past start begun ≡ false
+pub unlost : (past start : Past) (n v : ℕ) (begun : Event) → StartsJob start n v (Some begun) → crashes n past ≡ crashes n start → primary_crashes past ≡ primary_crashes start → is_lost past start begun ≡ false
 unlost past start n v (Copying m w) starts node source =
     none (not (crashes m.0 past == crashes m.0 start)) (not (primary_crashes past == primary_crashes start))
     (ap not (eq-eqb (crashes m.0 past) (crashes m.0 start) (subst (λ (k : ℕ). crashes k past ≡ crashes k start) (sym starts.0) node))) (ap not (eq-eqb (primary_crashes past) (primary_crashes start) source))
@@ -308,11 +319,10 @@ module _ (row : JobRow) (old mid new : Run) (same : mid ≡ old) where
   runs_steps (Some log) b turn going stops goes = absurd (true≢false (sym stops.0 ∙ going))
   runs_steps None b turn going stops goes = subst (λ (x : Run). JobGoesOn row.job x new turn) same goes
 
-  -- it has its part
-  pub runs_has : (name : Name) → IsNow mid new mid.log → BringsFile name (files_at row.job.node.0 mid) (files_at row.job.node.0 new) → JobHasPart row.job.node name old new (Work tt)
-  runs_has name now has = subst (λ (x : Run). JobHasPart row.job.node name x new (Work tt)) same (refl, now, has)
+  -- it takes a part
+  pub runs_takes : (name : Name) (turn : Turn (Unit {0})) → JobTakes row.job name mid new turn → JobTakes row.job name old new turn
+  runs_takes name turn takes = subst (λ (x : Run). JobTakes row.job name x new turn) same takes
 
-  pub runs_arrives : (name : Name) (o : Option Log) (b : Bool) → b ≡ false → Stops o row old mid b → IsNow mid new mid.log → BringsFile name (files_at row.job.node.0 mid) (files_at row.job.node.0 new)
-      → PartArrives row.job.node name o old new (Work tt)
-  runs_arrives name (Some log) b going stops now has = absurd (true≢false (sym stops.0 ∙ going))
-  runs_arrives name None b going stops now has = runs_has name now has
+  pub runs_arrives : (name : Name) (o : Option Log) (b : Bool) (turn : Turn (Unit {0})) → b ≡ false → Stops o row old mid b → JobTakes row.job name mid new turn → PartArrives row.job name o old new turn
+  runs_arrives name (Some log) b turn going stops takes = absurd (true≢false (sym stops.0 ∙ going))
+  runs_arrives name None b turn going stops takes = runs_takes name turn takes

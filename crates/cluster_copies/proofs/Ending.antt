@@ -2,7 +2,7 @@
 use Rattle.std.proofs.Common.{◌≡◌, ◌≢◌, ◌≤◌, ◌<◌, ◌&&◌, ◌==◌, ℕ, Bool, true, false, true≢false, List, [], ◌∷◌, Some, None, Option, Vec, Global, refl, ap, ◌∙◌, sym, subst, arith, if◌then◌else◌, nat_le}
 use Rattle.std.specs.Prelude.{IsSomeAnd, IfSome, not}
 use Rattle.std.proofs.lemmas.Bool.Decides.{nat_tests}
-use Rattle.std.proofs.lemmas.Bool.{eqb-true, eq-eqb}
+use Rattle.std.proofs.lemmas.Bool.{eq-eqb}
 use Rattle.nrt_base.specs.declared.numbers.At.{At}
 use Rattle.nrt_base.specs.declared.numbers.NodeNo.{NodeNo}
 use Rattle.nrt_base.specs.declared.numbers.Version.{Version}
@@ -18,7 +18,7 @@ use Rattle.copy_job.specs.Jobs.{Job as Copy, reads_under}
 use Rattle.searcher_switch.specs.declared.open.Open.{Open}
 use Rattle.index_primary.specs.declared.parts.PrimaryParts.{PrimaryParts}
 use Rattle.index_primary.specs.declared.states.Out.{Out}
-use Rattle.index_primary.specs.States.{out_of, is_out, states_without}
+use Rattle.index_primary.specs.States.{out_of, is_out}
 use Rattle.replica_node.specs.declared.job.PointJob.{PointJob}
 use Rattle.replica_node.specs.Jobs.{running_point}
 use Rattle.replica_node.specs.declared.parts.ReplicaParts.{ReplicaParts}
@@ -47,32 +47,30 @@ use Rattle.history_book.specs.Jobs.{job_at, last_job, StartsJob, LaneJobShows}
 use Rattle.history_book.specs.Turns.{AreInTurn}
 use Rattle.history_book.proofs.LineLaws.{without_some}
 use Rattle.cluster_nodes.specs.declared.held.HeldTicket.{HeldTicket}
-use Rattle.cluster_nodes.specs.declared.nodes.Node.{Node}
-use Rattle.cluster_nodes.specs.declared.nodes.Node.TheVariants.{Primary, Replica, Down}
+use Rattle.cluster_nodes.specs.declared.nodes.Node.TheVariants.{Primary, Replica}
 use Rattle.cluster_nodes.specs.declared.nodes.NodePlace.{NodePlace}
 use Rattle.cluster_state.specs.Run.{Rest, Run}
 use Rattle.cluster_nodes.specs.Places.{place_of, HasPrimary}
-use Rattle.cluster_state.specs.State.{StandForVersion, HoldsTickets, NodeShows, PlaceShows, Shows}
+use Rattle.cluster_state.specs.State.{StandForVersion, HoldsTickets, PlaceShows, Shows}
 use Rattle.cluster_state.specs.Moves.{Lasts}
-use Rattle.cluster_nodes.specs.Outs.{one_like, want_of, want_at, jobs_like, states_like}
-use Rattle.cluster_state.specs.Files.{MeansDrawn, CopyShows, JobShows, IsJobFor, ReplicaFiles, PrimaryFiles, NodeFiles, FilesShow}
+use Rattle.cluster_nodes.specs.Outs.{want_of, jobs_like}
+use Rattle.cluster_state.specs.Files.{CopyShows, JobShows, IsJobFor, ReplicaFiles, PrimaryFiles, FilesShow}
 use Rattle.cluster_state.specs.Copies.{JobRuns, ended_log}
 use Rattle.cluster_nodes.specs.JobChanges.{HasReplica, HasNextFile, IsNextFile, FinishesAt}
-use Rattle.cluster_nodes.specs.JobPlaces.{CanFinish, FinishesIn, MovesBoth}
+use Rattle.cluster_nodes.specs.JobPlaces.{CanFinish, CanStop, FinishesIn, MovesBoth}
 use Rattle.cluster_state.proofs.Growing.{lasts, fewer, same, not_flying}
 use Rattle.cluster_state.proofs.Frames.{some_at, holds_same, place_same, shows_still, slot_of, was}
 use Rattle.cluster_state.proofs.JobFrames.{IsCopyStart, copy_flying, same_shown, same_inner, same_then}
-use Rattle.cluster_nodes.proofs.OutCounts.{jobs_moved, states_back}
 use Rattle.cluster_state.specs.Disks.{IsPastPoint, CommitsStay}
-use Rattle.cluster_state.proofs.Disks.{no_commit, commits_shown, commits_then, disks_moved, disk_same, disks_kept}
+use Rattle.cluster_state.proofs.Disks.{no_commit, commits_shown, commits_then}
 use Rattle.cluster_state.proofs.Points.{point_stays}
-use Rattle.cluster_state.proofs.Wider.{primary_stays, primary_kept}
 use Rattle.cluster_state.proofs.Drawn.{Grows, grows_then, grows_shown}
-use Rattle.cluster_state.proofs.Naming.{FilesLast, means_more, altered_steps, finished_steps}
-use Rattle.cluster_state.proofs.FileFrames.{names_both, Both, both_of, both_each, replica_same, files_was}
+use Rattle.cluster_state.proofs.Naming.{FilesLast, means_more, finished_steps}
+use Rattle.cluster_state.proofs.FileFrames.{Both, both_of, both_each, files_was}
 use Rattle.cluster_state.proofs.FileJobs.{PrimaryHere, ReplicaHere, JobHere, primary_here, replica_here, job_here, job_out, runs_at}
 use Rattle.cluster_state.proofs.JobMoves.{shows_kept, primary_place}
 use Rattle.cluster_copies.proofs.PartPaths.{there_both, some_job}
+use Rattle.cluster_copies.proofs.Leaving.{LeavesJob, left_files}
 
 -- what is known of points that were copied whole
 abbrev pub SourcedStand : Type 0
@@ -82,7 +80,7 @@ SourcedStand = (source reads : Name → Content) (j : Copy) (infos : Infos) (doc
 -- ---- the log
 
 -- the job that ran has ended
-ended_none : (job : Job) (past now : Past) (o : Option JobRow) → while_going job.node.0 past o ≡ Some job → while_going job.node.0 now (row_if_some (Ends job.at.line job.node job.number) o) ≡ None
+pub ended_none : (job : Job) (past now : Past) (o : Option JobRow) → while_going job.node.0 past o ≡ Some job → while_going job.node.0 now (row_if_some (Ends job.at.line job.node job.number) o) ≡ None
 ended_none job past now None is = absurd (cc)
 ended_none job past now (Some row) is = tests (not row.ended && nat_le (crashed_at job.node.0 past) row.before && nat_le (primary_crashed past) row.before) is
   where
@@ -96,19 +94,19 @@ ended_none job past now (Some row) is = tests (not row.ended && nat_le (crashed_
     tests false is = absurd (cc)
 
 -- a job of a line that did not start as a publish
-not_publish : (past start : Past) (at : At) (n v : ℕ) (o : Option Event) → start_entry at past ≡ o → StartsJob start n v o → start_entry at past ≢ Some Publishing
+pub not_publish : (past start : Past) (at : At) (n v : ℕ) (o : Option Event) → start_entry at past ≡ o → StartsJob start n v o → start_entry at past ≢ Some Publishing
 not_publish past start at n v (Some (Copying m w)) is started other = absurd (let both : Some (Copying m w) ≡ Some Publishing = sym is ∙ other in cc)
 not_publish past start at n v (Some (Settling w)) is started other = absurd (let both : Some (Settling w) ≡ Some Publishing = sym is ∙ other in cc)
 not_publish past start at n v o is started other = absurd started
 
 -- nor as a commit
-not_commit : (past start : Past) (at : At) (n v : ℕ) (o : Option Event) → start_entry at past ≡ o → StartsJob start n v o → is_commit_line (start_entry at past) ≡ false
+pub not_commit : (past start : Past) (at : At) (n v : ℕ) (o : Option Event) → start_entry at past ≡ o → StartsJob start n v o → is_commit_line (start_entry at past) ≡ false
 not_commit past start at n v (Some (Copying k w)) is started = ap is_commit_line is
 not_commit past start at n v (Some (Settling w)) is started = ap is_commit_line is
 not_commit past start at n v o is started = absurd started
 
 module _ {D : Type 0} (cells : D → Cells) where
-  there_primary : (log : Log) (size p : ℕ) (places : List (Option (NodePlace D))) (shows : Shows cells log size places) (files : FilesShow cells log size places) (q : PrimaryParts D) (held : Vec HeldTicket Global) → IsNode size p
+  pub there_primary : (log : Log) (size p : ℕ) (places : List (Option (NodePlace D))) (shows : Shows cells log size places) (files : FilesShow cells log size places) (q : PrimaryParts D) (held : Vec HeldTicket Global) → IsNode size p
       → place_of places p ≡ Some (record { node = Primary q; held = held }) → PlaceShows cells log p (record { node = Primary q; held = held }) × PrimaryFiles files.source cells (printed log) (λ s. jobs_like places s size) q
   there_primary log size p places shows files q held node there =
       some_at (Both cells files.source log (λ s. jobs_like places s size) p) (place_of places p) (record { node = Primary q; held = held }) there (both_of cells log size places shows files p node)
@@ -131,37 +129,49 @@ module _ {D : Type 0} (cells : D → Cells) where
       stand source (reads_of (cells r.dir)) j.copy j.infos (documents_at (printed log) job.version.0) copies missing above.state.files
       (subst (λ (v : ℕ). StandsFor source j.infos (documents_at (printed log) v)) shows.version shows.point.stands)
 
-  can_finish_of : (log : Log) (size : ℕ) (places : List (Option (NodePlace D))) (p : NodeNo) (job : Job) (shows : Shows cells log size places) (files : FilesShow cells log size places) → SourcedStand → IsNode size p.0 → primary_of (printed log) ≡ Some p
-      → IsNode size job.node.0 → IsReplica (printed log) job.node.0 → job_at job.node.0 log ≡ Some job → HasNextFile (place_of places job.node.0) None → CanFinish cells p.0 job.node.0 places
-  can_finish_of log size places p job shows files stand node_p primary node replica is next = record {
+  can_stop_of : (log : Log) (size : ℕ) (places : List (Option (NodePlace D))) (p : NodeNo) (job : Job) → Shows cells log size places → FilesShow cells log size places → IsNode size p.0 → primary_of (printed log) ≡ Some p → IsNode size job.node.0
+      → IsReplica (printed log) job.node.0 → job_at job.node.0 log ≡ Some job → CanStop p.0 job.node.0 places
+  can_stop_of log size places p job shows files node_p primary node replica is = record {
     stand = record {
       slot_primary = slot_of cells log size p.0 places node_p shows;
-      slot_replica = slot_of cells log size n places node shows;
-      apart = sym (ap (λ (o : Option NodeNo). is_at o n) primary) ∙ replica.other;
+      slot_replica = slot_of cells log size job.node.0 places node shows;
+      apart = sym (ap (λ (o : Option NodeNo). is_at o job.node.0) primary) ∙ replica.other;
       primary = subst HasPrimary (sym here_p.at.there) tt;
       replica = subst HasReplica (sym here_n.at.there) tt;
     };
     may = λ q r hq hr there_q there_r.
-        let both = there_both cells log size n places shows files r hr node there_r in
-        let h = job_here cells files.source log n job r is both.1 in
-        let missing = none_missing places n r hr h.point there_r h.going next in
+        let h = job_here cells files.source log job.node.0 job r is (there_both cells log size job.node.0 places shows files r hr node there_r).1 in
         record {
           some = some_job (running_point r.job) h.point h.going;
-          complete = subst (λ (o : Option PointJob). IfSome o (λ j. j.copy.missing ≡ [])) (sym h.going) missing;
-          standing = subst (λ (o : Option PointJob). IfSome o (λ j. StandsForSome (reads_under j.copy.parts (reads_of (cells r.dir))) j.infos)) (sym h.going)
-              (record { docs = documents_at (printed log) job.version.0; stands = job_stands files.source log n job r h.point stand h.runs both.0.node_shows.whole.newer both.1 h.shows missing });
-          out = job_out cells log size n places q r hr files.source node there_r (there_primary log size p.0 places shows files q hq node_p there_q).1;
+          out = job_out cells log size job.node.0 places q r hr files.source node there_r (there_primary log size p.0 places shows files q hq node_p there_q).1;
         };
   }
     where
-      n : ℕ
-      n = job.node.0
-
       here_p : PrimaryHere cells files.source log (λ s. jobs_like places s size) p.0 places
       here_p = primary_here cells log size p.0 places shows files node_p (ap (λ (o : Option NodeNo). is_at o p.0) primary ∙ eq-eqb p.0 p.0 refl)
 
-      here_n : ReplicaHere cells files.source log n places
-      here_n = replica_here cells log size n places shows files node replica
+      here_n : ReplicaHere cells files.source log job.node.0 places
+      here_n = replica_here cells log size job.node.0 places shows files node replica
+
+  can_finish_of : (log : Log) (size : ℕ) (places : List (Option (NodePlace D))) (p : NodeNo) (job : Job) (shows : Shows cells log size places) (files : FilesShow cells log size places) → SourcedStand → IsNode size p.0 → primary_of (printed log) ≡ Some p
+      → IsNode size job.node.0 → IsReplica (printed log) job.node.0 → job_at job.node.0 log ≡ Some job → HasNextFile (place_of places job.node.0) None → CanFinish cells p.0 job.node.0 places
+  can_finish_of log size places p job shows files stand node_p primary node replica is next =
+      let stop = can_stop_of log size places p job shows files node_p primary node replica is in
+      record {
+        stand = stop.stand;
+        may = λ q r hq hr there_q there_r.
+            let both = there_both cells log size job.node.0 places shows files r hr node there_r in
+            let h = job_here cells files.source log job.node.0 job r is both.1 in
+            let missing = none_missing places job.node.0 r hr h.point there_r h.going next in
+            let may = stop.may q r hq hr there_q there_r in
+            record {
+              some = may.some;
+              complete = subst (λ (o : Option PointJob). IfSome o (λ j. j.copy.missing ≡ [])) (sym h.going) missing;
+              standing = subst (λ (o : Option PointJob). IfSome o (λ j. StandsForSome (reads_under j.copy.parts (reads_of (cells r.dir))) j.infos)) (sym h.going)
+                  (record { docs = documents_at (printed log) job.version.0; stands = job_stands files.source log job.node.0 job r h.point stand h.runs both.0.node_shows.whole.newer both.1 h.shows missing });
+              out = may.out;
+            };
+      }
 
   -- ---- it ended
 
@@ -228,31 +238,28 @@ module _ {D : Type 0} (cells : D → Cells) where
       segments : AreSegmentsOf docs s.searchers.point.readers
       segments = subst (λ (ss : List Shown). AreSegmentsOf docs ss) (one_segs (reads_of (cells s.dir)) s.infos.segs stands.segs s.searchers.point.readers stands.stands.each f.whole.point.readers) stands.stands.stand
 
+  -- the state of a job that ended well was given back
+  pub finished_leaves : (log : Log) (size : ℕ) (old : List (Option (NodePlace D))) (p : NodeNo) (n : ℕ) (q q' : PrimaryParts D) (r s : ReplicaParts D) (held : Vec HeldTicket Global) (j : PointJob) (source : Name → Content) → IsNode size n
+      → place_of old n ≡ Some (record { node = Replica r; held = held }) → PrimaryFiles source cells (printed log) (λ o. jobs_like old o size) q → want_of r.job ≡ Some (out_of j.copy.want) → FinishesAt cells j q q' r s → LeavesJob cells (out_of j.copy.want) q q' r s
+  finished_leaves log size old p n q q' r s held j source node there primary_files want f = record {
+    want = want;
+    out = subst (λ (o : Option Out). IfSome o (λ w. is_out w q.states ≡ true)) want (job_out cells log size n old q r held source node there primary_files);
+    primary = f.primary;
+    states = f.states;
+    gone = ap want_of f.job;
+    commits = ap (λ (z : ReplicaParts D). z.commits) f.others;
+  }
+
   -- the files of all nodes, once no job runs at the node and no copy of the newest version to it is in flight
   files_ended : (size : ℕ) (log now : Log) (old new : List (Option (NodePlace D))) (p : NodeNo) (job : Job) → FilesLast → Grows (printed log) (printed now) → CarriesNoMore log now → (shows : Shows cells log size old) (files : FilesShow cells log size old) → FinishesIn cells p.0 job.node.0 old new → IsNode size p.0 → primary_of (printed log) ≡ Some p
       → IsNode size job.node.0 → job_at job.node.0 log ≡ Some job
       → ((m : ℕ) → (job.node.0 == m) ≡ false → is_at (primary_of (printed log)) m ≡ false → SameJob log now m) → ((m : ℕ) → CommitsStay (printed log) (printed now) m)
       → job_at job.node.0 now ≡ None → ((a : At) → copy_in_flight job.node.0 (newest_version (printed now)) (printed now) ≡ Some a → ⊥) → FilesShow cells now size new
-  files_ended size log now old new p job lasting grows no_more shows files b node_p primary node is others stay ended none = record {
-    source = files.source;
-    drawn = drawn;
-    names = names_both cells size (printed log) (printed now) old new p.0 n x y (record { node = Primary b.both.primary.parts; held = b.both.primary.held }) (record { node = Replica r; held = b.both.replica.held }) grows b.moves node_p node
-        b.both.primary.there b.both.replica.there (altered_steps cells (printed now) b.both.primary.parts b.primary f.primary)
-        (finished_steps cells files.source (printed now) here.point b.both.primary.parts b.primary r s r.searchers.point.version.0 lasting drawn here.shows.metas above f) files.names;
-    each = both_each {P = Both cells files.source log jobs} {Q = λ m z. NodeFiles files.source cells now count m z.node} size p.0 n x y old new b.moves (both_of cells log size old shows files)
-        (λ m z node' away other both. other_node m z.node other (ap (λ (o : Option NodeNo). is_at o m) primary ∙ away) both.0.node_shows both.1)
-        (primary_stays cells files.source (printed log) (printed now) count count b.primary (stay n).points (λ t. omega arith) (primary_kept cells files.source (printed log) jobs count b.both.primary.parts b.primary f.primary.files low at_p.1))
-        mine;
-    disks = disks_kept cells files.source files.source log now size old new (λ name bytes is. is)
-        (disks_moved p.0 n x y (record { node = Primary b.both.primary.parts; held = b.both.primary.held }) (record { node = Replica r; held = b.both.replica.held }) old new b.moves b.both.primary.there b.both.replica.there
-        (disk_same b.both.primary.parts.commits b.primary.commits f.primary.files.commits) (disk_same r.commits s.commits (ap (λ (z : ReplicaParts D). z.commits) f.others)))
-        stay files.disks;
-    carried = λ name bytes out. files.carried name bytes (no_more name bytes out);
-  }
+  files_ended size log now old new p job lasting grows no_more shows files b node_p primary node is others stay ended none =
+      left_files cells size log old new p n b.both.primary.parts b.primary r s b.both.primary.held b.both.replica.held (out_of here.point.copy.want) b.moves b.both.primary.there b.both.replica.there node_p node primary shows
+      (finished_leaves log size old p n b.both.primary.parts b.primary r s b.both.replica.held here.point files.source node b.both.replica.there at_p.1 here.want f) files now grows no_more others stay
+      (finished_steps cells files.source (printed now) here.point b.both.primary.parts b.primary r s r.searchers.point.version.0 lasting (means_more files.source (printed log) (printed now) grows files.drawn) here.shows.metas above f) mine
     where
-      drawn : MeansDrawn files.source (printed now)
-      drawn = means_more files.source (printed log) (printed now) grows files.drawn
-
       n : ℕ
       n = job.node.0
 
@@ -262,19 +269,7 @@ module _ {D : Type 0} (cells : D → Cells) where
       s : ReplicaParts D
       s = b.replica
 
-      x : NodePlace D
-      x = record { node = Primary b.primary; held = b.both.primary.held }
-
-      y : NodePlace D
-      y = record { node = Replica s; held = b.both.replica.held }
-
-      jobs : Out → ℕ
-      jobs o = jobs_like old o size
-
-      count : Out → ℕ
-      count o = jobs_like new o size
-
-      at_p : PlaceShows cells log p.0 (record { node = Primary b.both.primary.parts; held = b.both.primary.held }) × PrimaryFiles files.source cells (printed log) jobs b.both.primary.parts
+      at_p : PlaceShows cells log p.0 (record { node = Primary b.both.primary.parts; held = b.both.primary.held }) × PrimaryFiles files.source cells (printed log) (λ o. jobs_like old o size) b.both.primary.parts
       at_p = there_primary log size p.0 old shows files b.both.primary.parts b.both.primary.held node_p b.both.primary.there
 
       at_n : PlaceShows cells log n (record { node = Replica r; held = b.both.replica.held }) × ReplicaFiles files.source cells log n r
@@ -289,31 +284,6 @@ module _ {D : Type 0} (cells : D → Cells) where
       above : IsJobAbove r.searchers.point.version.0 here.point
       above = subst (λ (o : Option PointJob). IfSome o (IsJobAbove r.searchers.point.version.0)) here.runs at_n.0.node_shows.whole.newer
 
-      apart_wants : (m : ℕ) → (n == m) ≡ false → want_at (place_of new m) ≡ want_at (place_of old m)
-      apart_wants m other = ap want_at (b.moves.there m ∙ ap (λ (t : Bool). if t then Some y else if p.0 == m then Some x else place_of old m) other) ∙ tests (p.0 == m) refl
-        where
-          tests : (t : Bool) → (p.0 == m) ≡ t → want_at (if p.0 == m then Some x else place_of old m) ≡ want_at (place_of old m)
-          tests true at = ap (λ (t : Bool). want_at (if t then Some x else place_of old m)) at ∙ sym (ap (λ (k : ℕ). want_at (place_of old k)) (sym (eqb-true p.0 m at)) ∙ ap want_at b.both.primary.there)
-          tests false at = ap (λ (t : Bool). want_at (if t then Some x else place_of old m)) at
-
-      low : (t : Out) → count t ≤ states_like t b.primary.states
-      low t =
-          let moved = jobs_moved old new t n size node.0 node.1 apart_wants in
-          let before : one_like t (want_at (place_of old n)) ≡ one_like t (Some (out_of here.point.copy.want)) = ap (λ (o : Option (NodePlace D)). one_like t (want_at o)) b.both.replica.there ∙ ap (one_like t) here.want in
-          let after : one_like t (want_at (place_of new n)) ≡ 0 = ap (λ (o : Option (NodePlace D)). one_like t (want_at o)) (b.moves.there n ∙ ap (λ (c : Bool). if c then Some y else if p.0 == n then Some x else place_of old n) (eq-eqb n n refl))
-          ∙ ap (λ (o : Option PointJob). one_like t (want_of o)) f.job in
-          let out : is_out (out_of here.point.copy.want) b.both.primary.parts.states ≡ true = subst (λ (o : Option Out). IfSome o (λ w. is_out w b.both.primary.parts.states ≡ true)) here.want
-          (job_out cells log size n old b.both.primary.parts r b.both.replica.held files.source node b.both.replica.there at_p.1) in
-          let back = states_back t (out_of here.point.copy.want) b.both.primary.parts.states out in
-          let now_states : states_like t b.primary.states ≡ states_like t (states_without (out_of here.point.copy.want) b.both.primary.parts.states) = ap (states_like t) f.states in
-          let was_low = at_p.1.outs t in
-          omega (arith, moved, before, after, back, now_states, was_low)
-
-      other_node : (m : ℕ) (z : Node D) → (n == m) ≡ false → is_at (primary_of (printed log)) m ≡ false → NodeShows cells log m z → NodeFiles files.source cells log jobs m z → NodeFiles files.source cells now count m z
-      other_node m (Primary q) other far has was_files = absurd (true≢false (sym has.primary ∙ far))
-      other_node m (Replica t) other far has was_files = replica_same cells files.source log now m t (others m other far) was_files
-      other_node m (Down d) other far has was_files = tt
-
       mine : ReplicaFiles files.source cells now n s
       mine = record {
         sourced = f.sourced files.source at_n.1.sourced;
@@ -323,7 +293,7 @@ module _ {D : Type 0} (cells : D → Cells) where
       }
 
   -- no copy of the newest version to the node is in flight but for the line of the job
-  flies_here : (log : Log) (job : Job) (r : ReplicaParts D) (source : Name → Content) (a : At) → job_at job.node.0 log ≡ Some job → ReplicaFiles source cells log job.node.0 r → copy_in_flight job.node.0 (newest_version (printed log)) (printed log) ≡ Some a → job.at ≡ a
+  pub flies_here : (log : Log) (job : Job) (r : ReplicaParts D) (source : Name → Content) (a : At) → job_at job.node.0 log ≡ Some job → ReplicaFiles source cells log job.node.0 r → copy_in_flight job.node.0 (newest_version (printed log)) (printed log) ≡ Some a → job.at ≡ a
   flies_here log job r source a is files flies = (subst (λ (o : Option Job). IsSomeAnd o (IsJobFor a (newest_version (printed log)))) is (files.flight a flies)).0
 
   pub ending : (size : ℕ) (log : Log) (old new : List (Option (NodePlace D))) (p : NodeNo) (job : Job) (o : Option Event) → SourcedStand → FilesLast → start_entry job.at (printed log) ≡ o → StartsJob (before_start job.at (printed log)) job.node.0 job.version.0 o
@@ -419,6 +389,13 @@ module _ {D : Type 0} (cells : D → Cells) where
       let same_size : size ≡ r.nodes = ap (λ (x : Run). x.nodes) view in
       let lane_now : LaneJobShows r.nodes (printed r.log) row = subst (λ (x : Log × ℕ). LaneJobShows x.1 (printed x.0) row) (λ i. (same_log i, same_size i)) lane in
       record { lane = lane_now; is = runs_at r.nodes r.log row runs lane_now }
+
+  pub can_stop : (r : Run) (ended : Bool) (size : ℕ) (log : Log) (places : List (Option (NodePlace D))) (p : NodeNo) (row : JobRow) → {left : Rest} → record { ended = ended; nodes = size; log = log; rest = left } ≡ r → r.ended ≡ false
+      → (ended ≡ false → Shows cells log size places × FilesShow cells log size places) → IsNode r.nodes p.0 → primary_of (printed r.log) ≡ Some p → JobRuns r.log row → LaneJobShows size (printed log) row → IsReplica (printed log) row.job.node.0 → CanStop p.0 row.job.node.0 places
+  can_stop r ended size log places p row view running pair node primary runs lane replica =
+      let h = lane_job_runs r ended size log row view runs lane in
+      can_stop_of r.log r.nodes places p row.job (was cells r ended size log places view running (λ e. (pair e).0)) (files_was cells r ended size log places view running (λ e. (pair e).1)) node primary h.lane.node
+      (subst (λ (l : Log). IsReplica (printed l) row.job.node.0) (ap (λ (x : Run). x.log) view) replica) h.is
 
   pub can_finish : (r : Run) (ended : Bool) (size : ℕ) (log : Log) (places : List (Option (NodePlace D))) (p : NodeNo) (row : JobRow) → {left : Rest} → record { ended = ended; nodes = size; log = log; rest = left } ≡ r → r.ended ≡ false
       → (ended ≡ false → Shows cells log size places × FilesShow cells log size places) → SourcedStand → IsNode r.nodes p.0 → primary_of (printed r.log) ≡ Some p → JobRuns r.log row → LaneJobShows size (printed log) row → IsReplica (printed log) row.job.node.0

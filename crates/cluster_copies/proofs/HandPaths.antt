@@ -14,6 +14,7 @@ use Rattle.history_rules.specs.Nodes.{IsNode, IsReplica, is_at, primary_of}
 use Rattle.history_tables.specs.declared.jobs.JobRow.{JobRow}
 use Rattle.history_book.specs.Log.{Log, printed, kept}
 use Rattle.merge_tasks.specs.Merging.{Sheet}
+use Rattle.link_model.specs.declared.fate.Fate.TheVariants.{Whole}
 use Rattle.history_book.specs.declared.inner.Inner.TheVariants.{FileOut}
 use Rattle.history_book.specs.Jobs.{job_at, LaneJobShows}
 use Rattle.cluster_nodes.specs.declared.held.HeldTicket.{HeldTicket}
@@ -148,16 +149,16 @@ module _ {D : Type 0} (cells : D → Cells) where
         (next_is places row.job.node.0 t.here.at.parts t.here.at.held t.job.point (Some (name, meta)) t.here.at.there t.job.going next) is fits
 
     pub hand_path : (b1 b2 : Sheet) (new : List (Option (NodePlace D))) (p : NodeNo) (name : Name) (meta : FileMetaData) (bytes copy : List ℕ) → FilesLast → IsNode r.nodes p.0 → primary_of (printed r.log) ≡ Some p → HasNextFile (place_of places row.job.node.0) (Some (name, meta))
-        → ReadsIn cells p.0 name bytes places new → copy ≡ bytes → b1.log ≡ b0.log → b1.nodes ≡ b0.nodes → b2.log ≡ kept (FileOut row.job.at.line row.job.node row.job.number name copy (Some row.job.at)) ∷ b1.log → b2.nodes ≡ b1.nodes
+        → ReadsIn cells p.0 name bytes places new → copy ≡ bytes → b1.log ≡ b0.log → b1.nodes ≡ b0.nodes → b2.log ≡ kept (FileOut row.job.at.line row.job.node row.job.number name copy Whole (Some row.job.at)) ∷ b1.log → b2.nodes ≡ b1.nodes
         → Shows cells b2.log b2.nodes new × FilesShow cells b2.log b2.nodes new
     hand_path b1 b2 new p name meta bytes copy lasting node_p primary next b shared e1 n1 e2 n2 =
         let is = (read_facts r.log r.nodes places new row p name meta bytes call_shows call_files lasting runs call_lane call_replica node_p next b).0 in
         let t = runs_here r.log r.nodes places row call_shows call_files runs call_lane call_replica in
         let both = file_handed cells r.nodes r.log places new p row.job.node row.job row.job.at.line name bytes call_files node_p primary call_replica.other t.is is b call_shows in
-        let log_now : b2.log ≡ kept (FileOut row.job.at.line row.job.node row.job.number name bytes (Some row.job.at)) ∷ r.log
-        = e2 ∙ (ap (λ (x : List ℕ). kept (FileOut row.job.at.line row.job.node row.job.number name x (Some row.job.at)) ∷ b1.log) shared
-        ∙ ap (λ (l : Log). kept (FileOut row.job.at.line row.job.node row.job.number name bytes (Some row.job.at)) ∷ l) (e1 ∙ same_log)) in
+        let log_now : b2.log ≡ kept (FileOut row.job.at.line row.job.node row.job.number name bytes Whole (Some row.job.at)) ∷ r.log
+        = e2 ∙ (ap (λ (x : List ℕ). kept (FileOut row.job.at.line row.job.node row.job.number name x Whole (Some row.job.at)) ∷ b1.log) shared
+        ∙ ap (λ (l : Log). kept (FileOut row.job.at.line row.job.node row.job.number name bytes Whole (Some row.job.at)) ∷ l) (e1 ∙ same_log)) in
         let size_now : b2.nodes ≡ r.nodes = n2 ∙ (n1 ∙ same_size) in (
-          now_is cells (kept (FileOut row.job.at.line row.job.node row.job.number name bytes (Some row.job.at)) ∷ r.log) b2.log r.nodes b2.nodes new log_now size_now both.0,
-          files_is cells (kept (FileOut row.job.at.line row.job.node row.job.number name bytes (Some row.job.at)) ∷ r.log) b2.log r.nodes b2.nodes new log_now size_now both.1,
+          now_is cells (kept (FileOut row.job.at.line row.job.node row.job.number name bytes Whole (Some row.job.at)) ∷ r.log) b2.log r.nodes b2.nodes new log_now size_now both.0,
+          files_is cells (kept (FileOut row.job.at.line row.job.node row.job.number name bytes Whole (Some row.job.at)) ∷ r.log) b2.log r.nodes b2.nodes new log_now size_now both.1,
         )

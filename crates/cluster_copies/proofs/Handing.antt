@@ -1,7 +1,7 @@
 -- A file that is handed out to a job.
 use Rattle.std.proofs.Common.{◌≡◌, ◌<◌, ◌+◌, ◌&&◌, ◌==◌, ℕ, Bool, true, false, true≢false, List, ◌∷◌, ◌++◌, Some, None, Option, Vec, Global, refl, ap, ◌∙◌, sym, subst, arith, if◌then◌else◌}
 use Rattle.std.specs.Prelude.{IsSomeAnd, IfSome, is_some, not}
-use Rattle.std.specs.List.{All, slice_get}
+use Rattle.std.specs.List.{slice_get}
 use Rattle.std.proofs.lemmas.List.Elements.{All-contains}
 use Rattle.std.proofs.lemmas.Bool.{eqb-true, lt-ltb}
 use Rattle.nrt_base.specs.declared.numbers.NodeNo.{NodeNo}
@@ -37,6 +37,7 @@ use Rattle.history_tables.specs.declared.jobs.JobStep.TheVariants.{Passes}
 use Rattle.history_tables.specs.JobRows.{row_if_some, while_going}
 use Rattle.history_book.specs.Log.{Log, printed, kept}
 use Rattle.history_book.specs.declared.inner.Inner.{Inner}
+use Rattle.link_model.specs.declared.fate.Fate.TheVariants.{Whole}
 use Rattle.history_book.specs.declared.inner.Inner.TheVariants.{FileOut}
 use Rattle.history_book.specs.Jobs.{last_job, job_at}
 use Rattle.cluster_nodes.specs.declared.held.HeldTicket.{HeldTicket}
@@ -132,7 +133,7 @@ module _ {D : Type 0} (cells : D → Cells) where
 
   -- the replica's job has a file more that was handed out
   handed_replica : (source : Name → Content) (log : Log) (n : NodeNo) (job : Job) (r : ReplicaParts D) (line : LineNo) (name : Name) (bytes : List ℕ) → job_at n.0 log ≡ Some job → source name ≡ Some bytes → ReplicaFiles source cells log n.0 r
-      → ReplicaFiles source cells (kept (FileOut line n job.number name bytes (Some job.at)) ∷ log) n.0 r
+      → ReplicaFiles source cells (kept (FileOut line n job.number name bytes Whole (Some job.at)) ∷ log) n.0 r
   handed_replica source log n job r line name bytes is reads was = record {
     sourced = was.sourced;
     job = subst (λ (o : Option Job). JobShows source now n.0 o r.job) (sym same_job_at) (shows (job_at n.0 log) r.job is was.job);
@@ -141,7 +142,7 @@ module _ {D : Type 0} (cells : D → Cells) where
   }
     where
       now : Log
-      now = kept (FileOut line n job.number name bytes (Some job.at)) ∷ log
+      now = kept (FileOut line n job.number name bytes Whole (Some job.at)) ∷ log
 
       passed : (o : Option JobRow) → row_if_some Passes o ≡ o
       passed None = refl
@@ -181,7 +182,7 @@ module _ {D : Type 0} (cells : D → Cells) where
 
   pub file_handed : (size : ℕ) (log : Log) (old new : List (Option (NodePlace D))) (p n : NodeNo) (job : Job) (line : LineNo) (name : Name) (bytes : List ℕ) (files : FilesShow cells log size old) → IsNode size p.0 → primary_of (printed log) ≡ Some p → is_at (primary_of (printed log)) n.0 ≡ false
       → job_at n.0 log ≡ Some job → files.source name ≡ Some bytes → ReadsIn cells p.0 name bytes old new → Shows cells log size old
-      → Shows cells (kept (FileOut line n job.number name bytes (Some job.at)) ∷ log) size new × FilesShow cells (kept (FileOut line n job.number name bytes (Some job.at)) ∷ log) size new
+      → Shows cells (kept (FileOut line n job.number name bytes Whole (Some job.at)) ∷ log) size new × FilesShow cells (kept (FileOut line n job.number name bytes Whole (Some job.at)) ∷ log) size new
   file_handed size log old new p n job line name bytes files node primary other is reads b shows = (
     shows_kept cells size log i new (λ a. refl) (shows_put cells size log old new p.0 x b.moves (primary_place cells log p.0 b.at.parts b.primary b.at.held b.alters at_p.0) shows),
     record {
@@ -199,7 +200,7 @@ module _ {D : Type 0} (cells : D → Cells) where
   )
     where
       i : Inner
-      i = FileOut line n job.number name bytes (Some job.at)
+      i = FileOut line n job.number name bytes Whole (Some job.at)
 
       now : Log
       now = kept i ∷ log

@@ -1,12 +1,16 @@
 mod Beginning
+mod Calls
 mod CopiedNow
 mod CopyPaths
 pub mod CopyRows
 mod Ending
+mod Failing
 mod HandPaths
 mod Handing
 mod JobEnds
 mod JobMerges
+mod Leaving
+mod MetLines
 mod PartPaths
 mod Settling
 mod TakingOver

@@ -1,5 +1,5 @@
 -- What a job that begins takes over from the one before it.
-use Rattle.std.proofs.Common.{◌≡◌, ◌<◌, ◌+◌, ◌&&◌, ◌||◌, ◌==◌, ℕ, Bool, true, false, true≢false, List, [], ◌∷◌, Some, None, Option, refl, ap, ◌∙◌, sym, subst, arith, if◌then◌else◌}
+use Rattle.std.proofs.Common.{◌≡◌, ◌&&◌, ◌||◌, ◌==◌, ℕ, Bool, true, false, true≢false, List, [], ◌∷◌, Some, None, Option, refl, ap, ◌∙◌, sym, subst, arith, if◌then◌else◌}
 use Rattle.std.specs.Prelude.{not, IfSome, nat_lt}
 use Rattle.std.specs.List.{All, filter}
 use Rattle.std.proofs.lemmas.Bool.{eq-eqb}
@@ -27,7 +27,6 @@ use Rattle.replica_node.specs.Jobs.{job_on, job_seen, job_taking, running_point}
 use Rattle.replica_node.specs.Replica.{IsJobAbove}
 use Rattle.replica_node.proofs.Metas.{some_meta}
 use Rattle.history_rules.specs.Nodes.{IsNode, generation_of}
-use Rattle.history_tables.specs.declared.jobs.Job.{Job}
 use Rattle.history_book.specs.Log.{Log, printed}
 use Rattle.history_book.specs.Jobs.{job_at}
 use Rattle.merge_tasks.specs.Merging.{Sheet}
@@ -37,7 +36,7 @@ use Rattle.cluster_nodes.specs.Places.{place_of}
 use Rattle.cluster_nodes.specs.Outs.{jobs_like}
 use Rattle.cluster_nodes.specs.JobPlaces.{BeginsIn}
 use Rattle.cluster_state.specs.Run.{JobFiles, Rest, Run, files_at}
-use Rattle.cluster_state.specs.State.{PlaceShows, Shows}
+use Rattle.cluster_state.specs.State.{Shows}
 use Rattle.cluster_state.specs.Files.{JobShows, FilesShow}
 use Rattle.cluster_state.specs.Copies.{TakesOver}
 use Rattle.cluster_state.specs.JobsIn.{job_files, place_files, jobs_in}

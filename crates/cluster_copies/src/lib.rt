@@ -4,6 +4,7 @@
 mod copies;
 mod line_copies;
 mod line_settles;
+mod met;
 mod settles;
 mod transfers;
 

@@ -6,7 +6,7 @@ ghost use Rattle.history_rules.specs.declared.entry.Event.{Event};
 ghost use Rattle.history_rules.specs.Nodes.{IsNode, version_of, newest_version};
 ghost use Rattle.history_rules.specs.Commits.{is_disk_fault};
 ghost use Rattle.history_rules.specs.Lines.{entries_of_line, start_entry, before_start};
-ghost use Rattle.history_rules.specs.Started.{is_copy, is_lost};
+ghost use Rattle.history_rules.specs.Started.{is_lost};
 ghost use Rattle.history_rules.specs.Legal.{KeepsRule};
 ghost use Rattle.history_tables.specs.Begins.{open_line};
 ghost use Rattle.history_book.specs.Log.{printed};
@@ -18,11 +18,11 @@ ghost use Rattle.cluster_state.specs.Run.{IsEnded};
 ghost use Rattle.cluster_state.specs.Copies.{JobRuns};
 ghost use Rattle.cluster_state.specs.FilesOut.{file_out};
 ghost use Rattle.cluster_state.specs.Calls.{LineRefused};
-ghost use Rattle.cluster_state.specs.CopyCalls.{IsBeingCopied, IsNotBeingCopied, CopyStarts, CopyStartsWhen, IsSourceFor, IsOpenJob, standing_of, MayEnd, TellsEnd, stopped_log, Stops, RunsOn, JobGoesOn, JobSteps, JobHasPart, PartArrives};
+ghost use Rattle.cluster_state.specs.CopyCalls.{IsBeingCopied, IsNotBeingCopied, CopyStarts, CopyStartsWhen, IsSourceFor, IsOpenJob, standing_of, MayEnd, TellsEnd, stopped_log, Stops, RunsOn, JobGoesOn, JobSteps, JobTakes, PartArrives};
 
 use crate::copies::{begin_copy, note_copied};
 use crate::transfers::{go_on, starts_as_copy, take_part};
-use cluster_nodes::{CopyTask, FileTask};
+use cluster_nodes::{CopyTask, FileTask, Went};
 use cluster_state::{ClusterState, Standing, Turn, refuse_turn};
 use copy_job::Part;
 use disk_model::FaultDir;
@@ -105,8 +105,10 @@ pub fn copy_start<D: FaultDir + Drop>(
         return Ok(Turn::Busy);
     }
     state.job_low(n);
-    let task = begin_copy(alloc, state, at, p, n)?;
-    Ok(Turn::Work(task))
+    match begin_copy(alloc, state, at, p, n)? {
+        Went::Done(task) => Ok(Turn::Work(task)),
+        Went::Failed => Ok(Turn::Done),
+    }
 }
 
 // Whether the line of a job is lost: its source has crashed, or where it is a copy its node.
@@ -215,14 +217,16 @@ pub fn copy_next<D: FaultDir + Drop>(
         return Ok(Turn::Done);
     }
     match go_on(alloc, state, row)? {
-        Some(file) => Ok(Turn::Work(file)),
-        None => Ok(Turn::Done),
+        Went::Done(Some(file)) => Ok(Turn::Work(file)),
+        Went::Done(None) => Ok(Turn::Done),
+        Went::Failed => Ok(Turn::Done),
     }
 }
 
 /// Puts a part into its job, or ends the job where it was stopped.
 pub fn copy_arrived<D: FaultDir + Drop>(
     state: &mut ClusterState<D>,
+    alloc: Global,
     row: JobRow,
     part: Part,
 ) -> Result<Turn<()>, NoMemory>
@@ -233,15 +237,17 @@ pub fn copy_arrived<D: FaultDir + Drop>(
     requires meta { IsMetaOf part.bytes part.meta }
     ensures ok { IfOk result (λ turn. (begun : Event)
         → start_entry row.job.at (printed state.old.log) ≡ Some begun
-        → PartArrives row.job.node part.name (stopped_log begun row state.old.log)
+        → PartArrives row.job part.name (stopped_log begun row state.old.log)
         state.old state.new turn) }
     ensures goes { IfOk result (λ turn. JobRuns state.old.log row
-        → JobHasPart row.job.node part.name state.old state.new turn) }
+        → JobTakes row.job part.name state.old state.new turn) }
     ensures err { OnErr result (IsEnded state.old state.new) }
 {
     if is_stopped(state, row)? {
         return Ok(Turn::Done);
     }
-    take_part(state, row, part)?;
-    Ok(Turn::Work(()))
+    match take_part(alloc, state, row, part)? {
+        Went::Done(()) => Ok(Turn::Work(())),
+        Went::Failed => Ok(Turn::Done),
+    }
 }

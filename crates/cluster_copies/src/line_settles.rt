@@ -10,7 +10,7 @@ ghost use Rattle.cluster_state.specs.CopyCalls.{SettleStarts, SettleGoesOn};
 use crate::copies::begin_settling;
 use crate::line_copies::is_being_copied;
 use crate::settles::{begin_settle, next_left};
-use cluster_nodes::{CopyTask, SettleTask};
+use cluster_nodes::{CopyTask, SettleTask, Went};
 use cluster_state::{ClusterState, Turn, refuse_turn};
 use disk_model::FaultDir;
 use history_rules::{Cause, Event};
@@ -71,8 +71,10 @@ pub fn settle_next<D: FaultDir + Drop>(
     match state.primary() {
         None => unreachable!(),
         Some(p) => {
-            let job = begin_settling(alloc, state, at, p, n, task.version)?;
-            Ok(Turn::Work(job))
+            match begin_settling(alloc, state, at, p, n, task.version)? {
+                Went::Done(job) => Ok(Turn::Work(job)),
+                Went::Failed => Ok(Turn::Done),
+            }
         }
     }
 }

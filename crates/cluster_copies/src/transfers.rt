@@ -1,6 +1,6 @@
 //! Jobs that copy the primary's newest point to replicas: how they go on, file by file, and end.
 
-ghost use Rattle.std.specs.Prelude.{◌≡◌, ◌≢◌, ◌≤◌, ◌<◌, false, None, Some, OnOk, OnErr, IfOk};
+ghost use Rattle.std.specs.Prelude.{◌≡◌, ◌≢◌, ◌≤◌, ◌<◌, false, None, Some, OnOk, OnErr, IfOk, ⊤};
 ghost use Rattle.copy_state.specs.Meta.{IsMetaOf};
 ghost use Rattle.history_rules.specs.Nodes.{version_of, newest_version, IsNode, primary_of};
 ghost use Rattle.history_rules.specs.Lines.{start_entry, before_start, highest_switched};
@@ -8,16 +8,23 @@ ghost use Rattle.history_rules.specs.Commits.{is_passed};
 ghost use Rattle.history_rules.specs.Rules.{IsLineWhole};
 ghost use Rattle.history_tables.specs.Begins.{open_line};
 ghost use Rattle.history_book.specs.Log.{printed};
-ghost use Rattle.cluster_state.specs.Copies.{is_copy_start, BringsFile, JobRuns, ended_log, GoesOn};
+ghost use Rattle.cluster_nodes.specs.Went.{ByWent};
+ghost use Rattle.cluster_state.specs.Copies.{is_copy_start, BringsFile, JobRuns, JobRefused, ended_log, GoesOn};
+ghost use Rattle.cluster_state.specs.GivesUp.{met_log};
 ghost use Rattle.cluster_state.specs.Run.{files_at, IsNow, IsEnded};
 ghost use Rattle.cluster_state.specs.FilesOut.{file_out};
 
-use cluster_nodes::{FileTask, files_last, finish_in, next_in, read_in, sourced_stands, take_in};
-use cluster_state::{ClusterState, are_bytes};
+use crate::met::{
+    met_before, must_be_planned, must_have_risen, note_ended, note_file, note_refused,
+};
+use cluster_nodes::{
+    FileTask, Went, files_last, finish_in, next_in, read_for_in, sourced_stands, take_in,
+};
+use cluster_state::{ClusterState, are_bytes, show_met};
 use copy_job::Part;
 use disk_model::FaultDir;
 use history_book::{Book, Inner, Job, JobRow, Start};
-use history_rules::Event;
+use history_rules::{Cause, Event};
 use merge_tasks::Ledger;
 use nrt_base::{At, NoMemory, NodeNo, Share};
 use std::alloc::{AllocError, Global};
@@ -41,8 +48,8 @@ pub(crate) fn starts_as_copy(book: &Book, at: At) -> bool
     }
 }
 
-// Appends the end of a job: its node switched to its version, and a copy has its reply.
-fn show_end(ledger: &mut Ledger, row: JobRow)
+/// Appends the end of a job: its node switched to its version, and a copy has its reply.
+pub(crate) fn show_end(ledger: &mut Ledger, row: JobRow)
     requires room { 3 ≤ ledger.old.room }
     requires runs { JobRuns ledger.old.log row }
     requires line { open_line row.job.at (printed ledger.old.log) ≢ None }
@@ -105,90 +112,125 @@ fn source_of<D: FaultDir + Drop>(cluster: &ClusterState<D>, row: JobRow) -> Node
 }
 
 /// Hands out the next file of a job that runs. Where none is missing the node switches to the job's point instead: the job has
-/// ended, and where its line is a copy, that has its reply.
+/// ended, and where its line is a copy, that has its reply. Where a disk fails the job is stopped, and its line is refused.
 pub fn go_on<D: FaultDir + Drop>(
     alloc: Global,
     cluster: &mut ClusterState<D>,
     row: JobRow,
-) -> Result<Option<FileTask>, NoMemory>
+) -> Result<Went<Option<FileTask>>, NoMemory>
     requires running { cluster.old.ended ≡ false }
     requires runs { JobRuns cluster.old.log row }
     requires line { open_line row.job.at (printed cluster.old.log) ≢ None }
     requires ordered { highest_switched row.job.at (printed cluster.old.log) < row.job.node.0 }
-    ensures ok { IfOk result (GoesOn row.job cluster.old cluster.new) }
+    ensures ok { IfOk result (ByWent (GoesOn row.job cluster.old cluster.new)
+        (JobRefused row.job Cause.DiskFault cluster.old cluster.new)) }
     ensures err { OnErr result (IsEnded cluster.old cluster.new) }
 {
     let book = cluster.ledger.book();
     book.is_legal();
     book.job_shows(row);
     book.job_replica(row);
+    book.is_unanswered(row.job.at);
     files_last();
     sourced_stands();
     let p = source_of(cluster, row);
-    let Job {
-        at,
-        node: n,
-        number,
-        ..
-    } = row.job;
+    let n = row.job.node;
     cluster.ended = true;
-    cluster.ledger.reserve(3)?;
+    let before = met_before(alloc, &mut cluster.ledger, &cluster.places, 3)?;
+    let met = before.as_slice();
     match next_in(alloc, &cluster.places, n)? {
         None => {
-            let whole = cluster.ledger.book();
-            must_be_whole(whole, at)?;
-            finish_in(alloc, &mut cluster.places, p, n)?;
-            show_end(&mut cluster.ledger, row);
-            cluster.ledger.book().is_legal();
-            cluster.ended = false;
-            Ok(None)
+            must_be_whole(cluster.ledger.book(), row.job.at)?;
+            let finished = finish_in(alloc, &mut cluster.places, p, n)?;
+            must_be_planned(cluster.ledger.book(), met, &cluster.places)?;
+            match finished {
+                Went::Done(()) => {
+                    note_ended(&mut cluster.ledger, row, met, &cluster.places);
+                    cluster.ledger.book().is_legal();
+                    cluster.ended = false;
+                    Ok(Went::Done(None))
+                }
+                Went::Failed => {
+                    must_have_risen(n, met, &cluster.places)?;
+                    note_refused(&mut cluster.ledger, row, met, &cluster.places);
+                    cluster.ended = false;
+                    Ok(Went::Failed)
+                }
+            }
         }
         Some(file) => {
             let name = file.0;
-            let source = read_in(&mut cluster.places, p, &name)?;
-            are_bytes(source.as_slice());
-            let copy = source.share(alloc)?;
-            cluster.ledger.keep(Inner::FileOut {
-                line: at.line,
-                node: n,
-                job: number,
-                name,
-                source: copy,
-                by: Some(at),
-            });
-            cluster.ended = false;
-            Ok(Some(FileTask {
-                name,
-                source,
-                meta: file.1,
-            }))
+            let read = read_for_in(alloc, &mut cluster.places, p, n, &name)?;
+            must_be_planned(cluster.ledger.book(), met, &cluster.places)?;
+            match read {
+                Went::Done(source) => {
+                    are_bytes(source.as_slice());
+                    let copy = source.share(alloc)?;
+                    note_file(&mut cluster.ledger, row, name, copy, met, &cluster.places);
+                    cluster.ended = false;
+                    Ok(Went::Done(Some(FileTask {
+                        name,
+                        source,
+                        meta: file.1,
+                    })))
+                }
+                Went::Failed => {
+                    must_have_risen(p, met, &cluster.places)?;
+                    note_refused(&mut cluster.ledger, row, met, &cluster.places);
+                    cluster.ended = false;
+                    Ok(Went::Failed)
+                }
+            }
         }
     }
 }
 
-/// Puts a part into a job that runs. Where the part is no longer missing, nothing changes.
+/// Puts a part into a job that runs. Where the part is no longer missing, nothing changes. Where the node's disk fails the job is stopped, and
+/// its line is refused.
 pub fn take_part<D: FaultDir + Drop>(
+    alloc: Global,
     cluster: &mut ClusterState<D>,
     row: JobRow,
     part: Part,
-) -> Result<(), NoMemory>
+) -> Result<Went<()>, NoMemory>
     requires running { cluster.old.ended ≡ false }
     requires runs { JobRuns cluster.old.log row }
+    requires line { open_line row.job.at (printed cluster.old.log) ≢ None }
+    requires ordered { highest_switched row.job.at (printed cluster.old.log) < row.job.node.0 }
     requires out { file_out row.job.at row.job.node.0 row.job.number part.name cluster.old.log
         ≡ Some part.bytes }
     requires meta { IsMetaOf part.bytes part.meta }
-    ensures ok { OnOk result (IsNow cluster.old cluster.new cluster.old.log) }
-    ensures has { OnOk result (BringsFile part.name
-        (files_at row.job.node.0 cluster.old) (files_at row.job.node.0 cluster.new)) }
+    ensures ok { IfOk result (ByWent
+        (λ done. IsNow cluster.old cluster.new (met_log row.job.at cluster.old cluster.new))
+        (JobRefused row.job Cause.DiskFault cluster.old cluster.new)) }
+    ensures has { IfOk result (ByWent (λ done. BringsFile part.name
+        (files_at row.job.node.0 cluster.old) (files_at row.job.node.0 cluster.new)) ⊤) }
     ensures err { OnErr result (IsEnded cluster.old cluster.new) }
 {
     let book = cluster.ledger.book();
     book.is_legal();
     book.job_shows(row);
     book.job_replica(row);
+    book.is_unanswered(row.job.at);
     files_last();
+    let p = source_of(cluster, row);
+    let n = row.job.node;
     cluster.ended = true;
-    take_in(&mut cluster.places, row.job.node, part)?;
-    cluster.ended = false;
-    Ok(())
+    let before = met_before(alloc, &mut cluster.ledger, &cluster.places, 2)?;
+    let met = before.as_slice();
+    let taken = take_in(alloc, &mut cluster.places, p, n, part)?;
+    must_be_planned(cluster.ledger.book(), met, &cluster.places)?;
+    match taken {
+        Went::Done(()) => {
+            show_met(&mut cluster.ledger, row.job.at, met, &cluster.places);
+            cluster.ended = false;
+            Ok(Went::Done(()))
+        }
+        Went::Failed => {
+            must_have_risen(n, met, &cluster.places)?;
+            note_refused(&mut cluster.ledger, row, met, &cluster.places);
+            cluster.ended = false;
+            Ok(Went::Failed)
+        }
+    }
 }

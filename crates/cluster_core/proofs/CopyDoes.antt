@@ -1,5 +1,5 @@
 -- What each row of copies and settles does for its line, from the entries that it adds.
-use Rattle.std.proofs.Common.{◌≡◌, ◌≢◌, ◌<◌, ℕ, Bool, true, false, [], ◌∷◌, Some, None, Option, refl, ap, ◌∙◌, sym, subst, if◌then◌else◌, inl, inr}
+use Rattle.std.proofs.Common.{◌≡◌, ◌≢◌, ◌<◌, ◌==◌, ℕ, Bool, true, false, [], ◌∷◌, Some, None, Option, refl, ap, ◌∙◌, sym, subst, if◌then◌else◌, inl, inr}
 use Rattle.std.specs.Prelude.{⊤, IfOk, OnOk, Result, Ok, Err}
 use Rattle.std.specs.declared.alloc.AllocError.{AllocError}
 use Rattle.std.proofs.lemmas.Option.{same_Some}
@@ -8,11 +8,11 @@ use Rattle.nrt_base.specs.declared.numbers.NodeNo.{NodeNo}
 use Rattle.nrt_base.specs.declared.numbers.Version.{Version}
 use Rattle.disk_model.specs.Disk.{Name}
 use Rattle.history_rules.specs.declared.cause.Cause.{Cause}
-use Rattle.history_rules.specs.declared.cause.Cause.TheVariants.{Lost}
+use Rattle.history_rules.specs.declared.cause.Cause.TheVariants.{Lost, DiskFault}
 use Rattle.history_rules.specs.declared.entry.Event.{Event}
 use Rattle.history_rules.specs.declared.entry.Event.TheVariants.{Copying, Switched, Copied, Settling, Settled, Refused}
-use Rattle.history_rules.specs.Nodes.{Past}
-use Rattle.history_rules.specs.Lines.{same_at, is_reply, is_answered, last_of_line, start_entry, before_start, highest_switched}
+use Rattle.history_rules.specs.Nodes.{Past, version_of, newest_version}
+use Rattle.history_rules.specs.Lines.{is_answered, last_of_line, start_entry, before_start, highest_switched}
 use Rattle.history_rules.specs.Legal.{IsLegalPast}
 use Rattle.history_rules.specs.Started.{is_lost}
 use Rattle.history_tables.specs.declared.jobs.Job.{Job}
@@ -23,6 +23,7 @@ use Rattle.history_book.specs.Laws.{IsFresh}
 use Rattle.history_book.specs.Log.{Log, printed, shown, kept}
 use Rattle.history_book.specs.Jobs.{StartsJob}
 use Rattle.history_book.specs.Turns.{AreInTurn}
+use Rattle.link_model.specs.declared.fate.Fate.TheVariants.{Whole}
 use Rattle.history_book.specs.declared.inner.Inner.TheVariants.{JobBegun, FileOut, JobEnd}
 use Rattle.history_book.proofs.FreshLaws.{open_unanswered}
 use Rattle.script_serving.specs.declared.script.LineCommand.{LineCommand}
@@ -31,7 +32,8 @@ use Rattle.script_serving.specs.Refusals.{refusal, is_copy_cause}
 use Rattle.script_serving.specs.Serves.{First, Follows, Suits}
 use Rattle.cluster_state.specs.Given.{CopyTask, FileTask, SettleTask}
 use Rattle.cluster_state.specs.Run.{Run, IsNow}
-use Rattle.cluster_state.specs.Copies.{newest_of, GoesOn, ended_log}
+use Rattle.cluster_state.specs.GivesUp.{met_log}
+use Rattle.cluster_state.specs.Copies.{newest_of, GoesOn, JobRefused, ended_log}
 use Rattle.cluster_state.specs.Settles.{IsSettling}
 use Rattle.cluster_state.specs.declared.standing.Standing.{Standing}
 use Rattle.cluster_state.specs.declared.standing.Standing.TheVariants.{Runs, Passed, Ends}
@@ -39,43 +41,45 @@ use Rattle.cluster_state.specs.declared.turn.Turn.{Turn}
 use Rattle.cluster_state.specs.declared.turn.Turn.TheVariants.{Work, Done, Busy}
 use Rattle.lane_threads.specs.Owes.{SuitsOrFault}
 use Rattle.cluster_core.specs.Doing.{Does, IsReplied, IsRepliedAtDone, IsBegunAtWork}
-use Rattle.cluster_state.specs.CopyCalls.{CopiesFor, CopyAnswered, CopyStarts, CopyStartsWhen, is_node_lost, overtaken, standing_of, log_after, IsOpenJob, stopped_log, JobSteps, PartArrives, SettleStarts, settle_end_event, SettleGoesOn}
-use Rattle.cluster_core.proofs.Does.{does_was, runs_in, one_does, none_does, first_suits, refused_does, replied_by, one_replied, lost_reply, refused_for_does, refused_for_replied, begun_by}
+use Rattle.cluster_state.specs.CopyCalls.{CopiesFor, copying_log, CopyEnds, CopyAnswered, CopyStarts, CopyStartsWhen, is_node_lost, overtaken, standing_of, log_after, IsOpenJob, stopped_log, JobSteps, PartArrives, SettleStarts, settle_end_event, SettleGoesOn}
+use Rattle.cluster_core.proofs.Does.{does_was, runs_in, one_does, none_does, first_suits, refused_does, one_replied, lost_reply, refused_for_does, refused_for_replied, begun_by}
+use Rattle.cluster_core.proofs.MetDoes.{Meets, meets_none, met_here, behind_does, one_behind, none_behind, first_behind, later_behind, begun_behind, top_replied}
 use Rattle.cluster_copies.proofs.CopyRows.{copy_newest, started_newest}
 
 -- ---- copy starts
 
-copy_adds : (at : At) (n : NodeNo) (old : Run) → IsFresh at (printed old.log) → refusal (Copy n) at.lane.0 (printed old.log) ≡ None
-    → SuitsOrFault (Copy n) at (printed old.log) (Copying n (newest_of (printed old.log)))
-copy_adds at n old fresh is =
-    first_suits (Copy n) at (printed old.log) (Copying n (newest_of (printed old.log))) fresh
-    (subst (λ (r : Option Cause). First (Copy n) at (printed old.log) r (Copying n (newest_of (printed old.log)))) (sym is) refl)
+copy_adds : (at : At) (n : NodeNo) (old : Run) (log : Log) → Meets false (Copy n) at old.log log → IsFresh at (printed old.log) → refusal (Copy n) at.lane.0 (printed old.log) ≡ None
+    → SuitsOrFault (Copy n) at (printed log) (Copying n (newest_of (printed old.log)))
+copy_adds at n old log m fresh is =
+    first_behind (Copy n) at old.log log (Copying n (newest_of (printed old.log))) m fresh
+    (subst (λ (r : Option Cause). First (Copy n) at (printed log) r (Copying n (newest_of (printed old.log)))) (sym is) refl)
 
 open_copied : (at : At) (n : NodeNo) (v : Version) (past : Past) → is_answered at past ≡ false → SuitsOrFault (Copy n) at (record { at = at; event = Copying n v } ∷ past) (Copied n v)
 open_copied at n v past unanswered = rw (same_at_self at) (unanswered, refl)
 
+open_failed : (at : At) (n : NodeNo) (v : Version) (past : Past) → is_answered at past ≡ false → SuitsOrFault (Copy n) at (record { at = at; event = Copying n v } ∷ past) (Refused DiskFault)
+open_failed at n v past unanswered = rw (same_at_self at) (unanswered, refl)
+
+copy_ends : (at : At) (n : NodeNo) (old new : Run) (newest : Bool) → refusal (Copy n) at.lane.0 (printed old.log) ≡ None → IsFresh at (printed old.log) → CopyEnds newest at n old new → Does (Copy n) at old new
+copy_ends at n old new true is fresh now =
+    let v : Version = newest_of (printed old.log) in
+    let m : Meets false (Copy n) at old.log old.log = meets_none false (Copy n) at old.log refl fresh.replied in
+    behind_does (Copy n) at old new (shown at (Copied n v) ∷ shown at (Copying n v) ∷ []) old.log m now (refl, open_copied at n v (printed old.log) fresh.replied, (refl, copy_adds at n old old.log m fresh is, tt))
+copy_ends at n old new false is fresh fails =
+    let v : Version = newest_of (printed old.log) in
+    let m : Meets false (Copy n) at old.log (met_log at old new) = met_here (Copy n) at old new fresh.replied in
+    behind_does (Copy n) at old new (shown at (Refused DiskFault) ∷ shown at (Copying n v) ∷ []) (met_log at old new) m fails.now
+    (refl, open_failed at n v (printed (met_log at old new)) m.unanswered, (refl, copy_adds at n old (met_log at old new) m fresh is, tt))
+
 copy_answered : (at : At) (n : NodeNo) (old new : Run) (o : Option Cause) → refusal (Copy n) at.lane.0 (printed old.log) ≡ o → IsFresh at (printed old.log) → CopyAnswered at n o old new → Does (Copy n) at old new
 copy_answered at n old new (Some cause) is fresh answered = refused_does (Copy n) at old new cause fresh is answered
-copy_answered at n old new None is fresh answered = record {
-  running = answered.running;
-  nodes = answered.nodes;
-  goes = record {
-    more = shown at (Copied n (newest_of (printed old.log))) ∷ shown at (Copying n (newest_of (printed old.log))) ∷ [];
-    log = answered.log;
-    adds = (refl, open_copied at n (newest_of (printed old.log)) (printed old.log) fresh.replied, (refl, copy_adds at n old fresh is, tt));
-  };
-}
+copy_answered at n old new None is fresh answered = copy_ends at n old new (version_of n.0 (printed old.log) == newest_version (printed old.log)) is fresh answered
 
 pub copy_does : (at : At) (n : NodeNo) (old new : Run) (turn : Turn CopyTask) → old.ended ≡ false → IsFresh at (printed old.log) → CopyStarts at n old new turn → CopyStartsWhen at n old.log turn → Does (Copy n) at old new
-copy_does at n old new (Work task) running fresh starts exact = record {
-  running = starts.now.running;
-  nodes = starts.now.nodes;
-  goes = record {
-    more = kept (JobBegun at.line n task.job (Some (newest_of (printed old.log))) (Some at)) ∷ shown at (Copying n (newest_of (printed old.log))) ∷ [];
-    log = starts.now.log;
-    adds = (inl refl, (refl, copy_adds at n old fresh exact.0.unrefused, tt));
-  };
-}
+copy_does at n old new (Work task) running fresh starts exact =
+    let m : Meets false (Copy n) at old.log (met_log at old new) = met_here (Copy n) at old new fresh.replied in
+    behind_does (Copy n) at old new (kept (JobBegun at.line n task.job (Some (newest_of (printed old.log))) (Some at)) ∷ shown at (Copying n (newest_of (printed old.log))) ∷ []) (met_log at old new) m starts.now
+    (inl refl, (refl, copy_adds at n old (met_log at old new) m fresh exact.0.unrefused, tt))
 copy_does at n old new Done running fresh starts exact = copy_answered at n old new (refusal (Copy n) at.lane.0 (printed old.log)) refl fresh starts
 copy_does at n old new Busy running fresh starts exact =
     none_does (Copy n) at old new (subst (λ (r : Run). IsNow old r old.log) (sym starts.0) (record { running = running; nodes = refl; log = refl }))
@@ -86,15 +90,13 @@ copy_done at n s r new (Ok turn) is running fresh starts exact =
     does_was (Copy n) at s r new is (copy_does at n s new turn running fresh starts exact)
 copy_done at n s r new (Err e) is running fresh starts exact = tt
 
--- a reply on top
-top_replied : (at : At) (new : Run) (e : Event) (log : Log) → is_reply e ≡ true → new.log ≡ shown at e ∷ log → IsReplied at new
-top_replied at new e log reply is =
-    ap (λ (l : Log). is_answered at (printed l)) is ∙ replied_by (is_reply e) (same_at at at) (is_answered at (printed log)) reply (same_at_self at)
+ends_replied : (at : At) (n : NodeNo) (old new : Run) (newest : Bool) → CopyEnds newest at n old new → IsReplied at new
+ends_replied at n old new true now = top_replied at new (Copied n (newest_of (printed old.log))) (shown at (Copying n (newest_of (printed old.log))) ∷ old.log) refl now.log
+ends_replied at n old new false fails = top_replied at new (Refused DiskFault) (copying_log at n old new) refl fails.now.log
 
 answered_replied : (at : At) (n : NodeNo) (old new : Run) (o : Option Cause) → CopyAnswered at n o old new → IsReplied at new
 answered_replied at n old new (Some cause) answered = one_replied at old new (Refused cause) refl answered
-answered_replied at n old new None answered =
-    top_replied at new (Copied n (newest_of (printed old.log))) (shown at (Copying n (newest_of (printed old.log))) ∷ old.log) refl answered.log
+answered_replied at n old new None answered = ends_replied at n old new (version_of n.0 (printed old.log) == newest_version (printed old.log)) answered
 
 pub copy_replied : (at : At) (n : NodeNo) (old new : Run) (turn : Turn CopyTask) → CopyStarts at n old new turn → IsRepliedAtDone at new turn
 copy_replied at n old new (Work task) starts = tt
@@ -104,7 +106,7 @@ copy_replied at n old new Busy starts = tt
 pub copy_begun : (at : At) (n : NodeNo) (old new : Run) (turn : Turn CopyTask) → IsFresh at (printed old.log) → CopyStarts at n old new turn
     → IsBegunAtWork at (λ task. Copying n (newest_of (printed old.log))) new turn
 copy_begun at n old new (Work task) fresh starts =
-    begun_by at old new (Copying n (newest_of (printed old.log))) refl (rw (same_at_self at) refl) fresh (ap printed starts.now.log)
+    begun_behind (Copy n) at old.log (met_log at old new) new (Copying n (newest_of (printed old.log))) (met_here (Copy n) at old new fresh.replied) refl (rw (same_at_self at) refl) (ap printed starts.now.log)
 copy_begun at n old new Done fresh starts = tt
 copy_begun at n old new Busy fresh starts = tt
 
@@ -162,52 +164,50 @@ module _ (job : Job) (later : Option Version) (size : ℕ) (old new : Run) (begu
   stops_does command Passed log copies late is now = none_does command job.at old new (subst (IsNow old new) (sym (same_Some old.log log is)) now)
   stops_does command (Ends cause) log copies late is now = late_does command cause copies late (subst (IsNow old new) (sym (same_Some (shown job.at (Refused cause) ∷ old.log) log is)) now)
 
-  handed_does : (command : LineCommand) (file : FileTask) → GoesOn job old new (Some file) → Does command job.at old new
-  handed_does command file goes = record {
-    running = goes.now.running;
-    nodes = goes.now.nodes;
-    goes = record { more = kept (FileOut job.at.line job.node job.number file.name file.source (Some job.at)) ∷ []; log = goes.now.log; adds = (inl refl, tt) };
-  }
+  abbrev met : Log
+  met = met_log job.at old new
 
-  switched_copied : (m n : NodeNo) (v : Version) → n ≡ m → SuitsOrFault (Copy m) job.at (record { at = job.at; event = Switched job.node job.version } ∷ printed old.log) (Copied n v)
-  switched_copied m n v same = rw (same_at_self job.at) (unanswered job.at size old.log begun legal turns start line, same)
+  meets : (command : LineCommand) → Meets false command job.at old.log met
+  meets command = met_here command job.at old new (unanswered job.at size old.log begun legal turns start line)
+
+  -- what follows the newest entry of the line, behind the faults that it met
+  suits_met : (command : LineCommand) (e : Event) → ((last : Event) → last_of_line job.at (printed old.log) ≡ Some last → Follows command last e) → Suits command job.at (printed met) (last_of_line job.at (printed met)) e
+  suits_met command e follows = by (last_of_line job.at (printed old.log)) refl
+    where
+      by : (o : Option Event) → last_of_line job.at (printed old.log) ≡ o → Suits command job.at (printed met) (last_of_line job.at (printed met)) e
+      by None is = absurd (started_newest (printed old.log) job.at begun start is)
+      by (Some last) is = later_behind command job.at old.log met last e (meets command) is (follows last is)
+
+  handed_does : (command : LineCommand) (file : FileTask) → GoesOn job old new (Some file) → Does command job.at old new
+  handed_does command file goes =
+      behind_does command job.at old new (kept (FileOut job.at.line job.node job.number file.name file.source Whole (Some job.at)) ∷ []) met (meets command) goes.now (inl refl, tt)
+
+  -- the line was refused, and the job has ended
+  failed_does : (command : LineCommand) (cause : Cause) → CopiesFor command (Some begun) → is_copy_cause cause ≡ true → JobRefused job cause old new → Does command job.at old new
+  failed_does command cause copies late refused =
+      behind_does command job.at old new (kept (JobEnd job.at.line job.node job.number) ∷ shown job.at (Refused cause) ∷ []) met (meets command) refused.now
+      (inr refl, (refl, suits_met command (Refused cause) (λ last is. late_copy command begun last cause copies late), tt))
+
+  switched_copied : (m n : NodeNo) (v : Version) → n ≡ m → SuitsOrFault (Copy m) job.at (record { at = job.at; event = Switched job.node job.version } ∷ printed met) (Copied n v)
+  switched_copied m n v same = rw (same_at_self job.at) ((meets (Copy m)).unanswered, same)
 
   ended_does : (command : LineCommand) (e : Event) → begun ≡ e → CopiesFor command (Some e) → StartsJob (before_start job.at (printed old.log)) job.node.0 job.version.0 (Some e)
-      → highest_switched job.at (printed old.log) < job.node.0 → IsNow old new (ended_log job (Some e) old.log) → Does command job.at old new
+      → highest_switched job.at (printed old.log) < job.node.0 → IsNow old new (ended_log job (Some e) met) → Does command job.at old new
   ended_does (Copy m) (Copying n v) is copies starts high now =
       let same : n ≡ job.node = node_is n job.node starts.0 in
       let newest : last_of_line job.at (printed old.log) ≡ Some (Copying n v) =
       copy_newest size (printed old.log) job.at n v legal (start ∙ ap Some is) line (subst (λ (k : NodeNo). highest_switched job.at (printed old.log) < k.0) (sym same) high) in
-      record {
-        running = now.running;
-        nodes = now.nodes;
-        goes = record {
-          more = kept (JobEnd job.at.line job.node job.number) ∷ shown job.at (Copied n v) ∷ shown job.at (Switched job.node job.version) ∷ [];
-          log = now.log;
-          adds = (
-            inr refl,
-            (
-              refl,
-              switched_copied m n v copies,
-              (
-                refl,
-                subst (λ (l : Option Event). Suits (Copy m) job.at (printed old.log) l (Switched job.node job.version)) (sym newest)
-                    (unanswered job.at size old.log begun legal turns start line, sym same ∙ copies),
-                tt,
-              ),
-            ),
-          );
-        };
-      }
-  ended_does Settle (Settling w) is copies starts high now = record {
-    running = now.running;
-    nodes = now.nodes;
-    goes = record {
-      more = kept (JobEnd job.at.line job.node job.number) ∷ shown job.at (Switched job.node job.version) ∷ [];
-      log = now.log;
-      adds = (inr refl, (refl, suits_after job.at size old.log begun legal turns start line Settle (Switched job.node job.version) (λ last is. tt), tt));
-    };
-  }
+      behind_does (Copy m) job.at old new (kept (JobEnd job.at.line job.node job.number) ∷ shown job.at (Copied n v) ∷ shown job.at (Switched job.node job.version) ∷ []) met (meets (Copy m)) now (
+        inr refl,
+        (
+          refl,
+          switched_copied m n v copies,
+          (refl, later_behind (Copy m) job.at old.log met (Copying n v) (Switched job.node job.version) (meets (Copy m)) newest (sym same ∙ copies), tt),
+        ),
+      )
+  ended_does Settle (Settling w) is copies starts high now =
+      behind_does Settle job.at old new (kept (JobEnd job.at.line job.node job.number) ∷ shown job.at (Switched job.node job.version) ∷ []) met (meets Settle) now
+      (inr refl, (refl, suits_met Settle (Switched job.node job.version) (λ last is. tt), tt))
   ended_does command e is copies starts high now = absurd copies
 
 -- a job that goes on, or was stopped
@@ -222,20 +222,24 @@ goes_does command row size old new begun turn legal turns start line high starts
         stops_does row.job row.later size old new begun legal turns start line command (standing_of begun row (printed old.log)) log copies
         (late_standing (is_lost (printed old.log) (before_start row.job.at (printed old.log)) begun) (is_node_lost (printed old.log) row.job) row.later) is goes.1
     by None is (Work file) goes = handed_does row.job row.later size old new begun legal turns start line command file goes
-    by None is Done goes =
-        ended_does row.job row.later size old new begun legal turns start line command begun refl copies starts high (subst (λ (o : Option Event). IsNow old new (ended_log row.job o old.log)) start goes)
+    by None is Done (inl ends) =
+        ended_does row.job row.later size old new begun legal turns start line command begun refl copies starts high (subst (λ (o : Option Event). IsNow old new (ended_log row.job o (met_log row.job.at old new))) start ends)
+    by None is Done (inr refused) = failed_does row.job row.later size old new begun legal turns start line command DiskFault copies refl refused
     by None is Busy goes = absurd goes
 
 pub arrives_does : (command : LineCommand) (row : JobRow) (name : Name) (size : ℕ) (old new : Run) (begun : Event) (turn : Turn (Unit {0})) → IsLegalPast size (printed old.log) → AreInTurn (printed old.log)
     → start_entry row.job.at (printed old.log) ≡ Some begun → open_line row.job.at (printed old.log) ≢ None → CopiesFor command (Some begun)
-    → PartArrives row.job.node name (stopped_log begun row old.log) old new turn → Does command row.job.at old new
-arrives_does command row name size old new begun turn legal turns start line copies arrives = by (stopped_log begun row old.log) refl arrives
+    → PartArrives row.job name (stopped_log begun row old.log) old new turn → Does command row.job.at old new
+arrives_does command row name size old new begun turn legal turns start line copies arrives = by (stopped_log begun row old.log) refl turn arrives
   where
-    by : (o : Option Log) → stopped_log begun row old.log ≡ o → PartArrives row.job.node name o old new turn → Does command row.job.at old new
-    by (Some log) is arrives =
+    by : (o : Option Log) → stopped_log begun row old.log ≡ o → (turn : Turn (Unit {0})) → PartArrives row.job name o old new turn → Does command row.job.at old new
+    by (Some log) is turn arrives =
         stops_does row.job row.later size old new begun legal turns start line command (standing_of begun row (printed old.log)) log copies
         (late_standing (is_lost (printed old.log) (before_start row.job.at (printed old.log)) begun) (is_node_lost (printed old.log) row.job) row.later) is arrives.1
-    by None is arrives = none_does command row.job.at old new arrives.1
+    by None is (Work done) arrives =
+        none_behind command row.job.at old new (met_log row.job.at old new) (meets row.job row.later size old new begun legal turns start line command) arrives.0
+    by None is Done arrives = failed_does row.job row.later size old new begun legal turns start line command DiskFault copies refl arrives
+    by None is Busy arrives = absurd arrives
 
 -- ---- settles
 
@@ -267,22 +271,30 @@ settle_end at size v false old new begun legal turns start line now =
 
 pub settled_does : (at : At) (size : ℕ) (left : SettleTask) (old new : Run) (begun : Event) (turn : Turn CopyTask) → old.ended ≡ false → IsLegalPast size (printed old.log) → AreInTurn (printed old.log)
     → start_entry at (printed old.log) ≡ Some begun → open_line at (printed old.log) ≢ None → SettleGoesOn at old new left turn → Does Settle at old new
-settled_does at size left old new begun (Work job) running legal turns start line goes = record {
-  running = goes.0.now.running;
-  nodes = goes.0.now.nodes;
-  goes = record { more = kept (JobBegun at.line job.node job.job (Some (newest_of (printed old.log))) (Some at)) ∷ []; log = goes.0.now.log; adds = (inl refl, tt) };
-}
-settled_does at size left old new begun Done running legal turns start line goes =
-    settle_end at size left.version (is_lost (printed old.log) (before_start at (printed old.log)) (Settling left.version)) old new begun legal turns start line
-    (subst (λ (e : Event). IsNow old new (shown at e ∷ old.log)) goes.2 goes.1)
-settled_does at size left old new begun Busy running legal turns start line goes =
-    none_does Settle at old new (subst (λ (r : Run). IsNow old r old.log) (sym goes.0) (record { running = running; nodes = refl; log = refl }))
+settled_does at size left old new begun turn running legal turns start line = by turn
+  where
+    m : Meets false Settle at old.log (met_log at old new)
+    m = met_here Settle at old new (unanswered at size old.log begun legal turns start line)
+
+    failed : (o : Option Event) → last_of_line at (printed old.log) ≡ o → Suits Settle at (printed (met_log at old new)) (last_of_line at (printed (met_log at old new))) (Refused DiskFault)
+    failed None is = absurd (started_newest (printed old.log) at begun start is)
+    failed (Some last) is = later_behind Settle at old.log (met_log at old new) last (Refused DiskFault) m is refl
+
+    by : (turn : Turn CopyTask) → SettleGoesOn at old new left turn → Does Settle at old new
+    by (Work job) goes =
+        behind_does Settle at old new (kept (JobBegun at.line job.node job.job (Some (newest_of (printed old.log))) (Some at)) ∷ []) (met_log at old new) m goes.0.now (inl refl, tt)
+    by Done (inl ends) =
+        settle_end at size left.version (is_lost (printed old.log) (before_start at (printed old.log)) (Settling left.version)) old new begun legal turns start line
+        (subst (λ (e : Event). IsNow old new (shown at e ∷ old.log)) ends.2 ends.1)
+    by Done (inr fails) = one_behind Settle at old new (Refused DiskFault) (met_log at old new) m fails.begins.now (failed (last_of_line at (printed old.log)) refl)
+    by Busy goes = none_does Settle at old new (subst (λ (r : Run). IsNow old r old.log) (sym goes.0) (record { running = running; nodes = refl; log = refl }))
 
 pub settled_replied : (at : At) (left : SettleTask) (old new : Run) (turn : Turn CopyTask) → SettleGoesOn at old new left turn → IsRepliedAtDone at new turn
 settled_replied at left old new (Work job) goes = tt
-settled_replied at left old new Done goes =
+settled_replied at left old new Done (inl ends) =
     one_replied at old new (settle_end_event at left.version (printed old.log)) (lost_reply (is_lost (printed old.log) (before_start at (printed old.log)) (Settling left.version)) (Settled left.version) refl)
-    (subst (λ (e : Event). IsNow old new (shown at e ∷ old.log)) goes.2 goes.1)
+    (subst (λ (e : Event). IsNow old new (shown at e ∷ old.log)) ends.2 ends.1)
+settled_replied at left old new Done (inr fails) = top_replied at new (Refused DiskFault) (met_log at old new) refl fails.begins.now.log
 settled_replied at left old new Busy goes = tt
 
 -- ---- in the terms of a call, whose cluster has this state
@@ -306,7 +318,7 @@ next_done command at row size s r new l (Ok turn) view same at_is job legal turn
 
 pub arrived_done : (command : LineCommand) (at : At) (row : JobRow) (name : Name) (size : ℕ) (s r new : Run) (result : Result (Turn (Unit {0})) AllocError) → s ≡ r → row.job.at ≡ at → IsOpenJob s.log row
     → IsLegalPast size (printed s.log) → AreInTurn (printed s.log)
-    → IfOk result (λ turn. (begun : Event) → start_entry row.job.at (printed s.log) ≡ Some begun → PartArrives row.job.node name (stopped_log begun row s.log) s new turn)
+    → IfOk result (λ turn. (begun : Event) → start_entry row.job.at (printed s.log) ≡ Some begun → PartArrives row.job name (stopped_log begun row s.log) s new turn)
     → CopiesFor command (start_entry at (printed r.log)) → OnOk result (Does command at r new)
 arrived_done command at row name size s r new (Err e) view at_is job legal turns ok copies = tt
 arrived_done command at row name size s r new (Ok turn) view at_is job legal turns ok copies =

@@ -1,5 +1,5 @@
 -- What each row of calls does for its line, from the entries that it adds.
-use Rattle.std.proofs.Common.{◌≡◌, ◌≢◌, ◌&&◌, ◌||◌, ◌==◌, ◌+◌, ℕ, Bool, true, false, List, [], ◌∷◌, ◌++◌, map, Some, None, Option, refl, ap, ◌∙◌, sym, subst, if◌then◌else◌, length, inr, arith}
+use Rattle.std.proofs.Common.{◌≡◌, ◌≢◌, ◌&&◌, ◌||◌, ◌==◌, ℕ, Bool, true, false, List, [], ◌∷◌, Some, None, Option, refl, ap, ◌∙◌, sym, subst, if◌then◌else◌, length, inr, arith}
 use Rattle.std.specs.Prelude.{not, is_some}
 use Rattle.std.specs.List.{list_any}
 use Rattle.std.proofs.lemmas.Bool.{and_from, and_parts}
@@ -18,11 +18,10 @@ use Rattle.seg_reader.specs.Shown.{Shown}
 use Rattle.searcher_switch.specs.declared.searchers.Lease.{Lease}
 use Rattle.segment_steps.specs.declared.flushing.FlushTask.{FlushTask}
 use Rattle.history_rules.specs.declared.cause.Cause.{Cause}
-use Rattle.history_rules.specs.declared.cause.FaultKind.{FaultKind}
 use Rattle.history_rules.specs.declared.cause.Cause.TheVariants.{NoTicket, Nothing, NamesSpent, TooManySegments, Lost}
 use Rattle.history_rules.specs.declared.entry.Event.{Event}
-use Rattle.history_rules.specs.declared.entry.Event.TheVariants.{Accepted, Publishing, Published, Opened, Asking, Answered, Closed, Files, Refused}
-use Rattle.history_rules.specs.Nodes.{Past, generation_of, newest_version, version_of}
+use Rattle.history_rules.specs.declared.entry.Event.TheVariants.{Accepted, Publishing, Opened, Asking, Answered, Closed, Files, Refused}
+use Rattle.history_rules.specs.Nodes.{Past, version_of}
 use Rattle.history_rules.specs.Lines.{same_at, is_start, is_reply, is_answered, last_of_line, before_start}
 use Rattle.history_rules.specs.Points.{cut_of, cut_has_put}
 use Rattle.history_rules.specs.Tickets.{Ticket, has_ticket, open_ticket}
@@ -41,13 +40,12 @@ use Rattle.script_serving.specs.Serves.{First, Follows, Suits}
 use Rattle.cluster_state.specs.Run.{Run, IsNow}
 use Rattle.cluster_state.specs.declared.turn.Turn.{Turn}
 use Rattle.cluster_state.specs.declared.turn.Turn.TheVariants.{Work, Done, Busy}
-use Rattle.lane_threads.specs.Owes.{AddsEntries, SuitsOrFault}
+use Rattle.lane_threads.specs.Owes.{SuitsOrFault}
 use Rattle.cluster_core.specs.Doing.{Does, IsReplied, IsBegunBy, IsRepliedAtDone, IsBegunAtWork, writing_command, AsksFor}
 use Rattle.cluster_state.specs.Calls.{by_refusal, LineRefused, IsRefusedFor, publish_refusal, PublishRefused, PublishStarts, open_event, ListsFiles, SearchStarts, AsksTicket, AskStarts, asked_event, close_by, ScansAt, answer_event, AnswerEnds}
 use Rattle.cluster_state.specs.GivesUp.{publish_reply, met_log, PublishEndsBy, EndsPublish}
-use Rattle.cluster_state.specs.Met.{failures_by_plan, fault_by}
-use Rattle.cluster_state.proofs.Faulted.{met_has}
 use Rattle.cluster_state.proofs.Rows.{up_unrefused}
+use Rattle.cluster_core.proofs.MetDoes.{Meets, met_here, one_behind, later_behind, refused_behind, row_behind, top_replied}
 
 -- ---- entries
 
@@ -72,13 +70,9 @@ later_suits command at past begun e last unanswered follows = subst (λ (l : Opt
 pub started_unanswered : (at : At) (past : Past) (begun : Event) → AreInTurn past → is_start begun ≡ true → last_of_line at past ≡ Some begun → is_answered at past ≡ false
 started_unanswered at past begun turns start last = open_unanswered at past turns (last_started at past begun start last).is_open
 
-pub replied_by : (b r s : Bool) → b ≡ true → r ≡ true → ((b && r) || s) ≡ true
-replied_by b r s e f = rw (e, f) refl
-
 -- a reply is there
 pub one_replied : (at : At) (old new : Run) (e : Event) → is_reply e ≡ true → IsNow old new (shown at e ∷ old.log) → IsReplied at new
-one_replied at old new e reply now =
-    subst (λ (log : Log). is_answered at (printed log) ≡ true) (sym now.log) (replied_by (is_reply e) (same_at at at) (is_answered at (printed old.log)) reply (same_at_self at))
+one_replied at old new e reply now = top_replied at new e old.log reply now.log
 
 -- a start is there
 pub begun_by : (at : At) (old new : Run) (begun : Event) → is_reply begun ≡ false → last_of_line at (record { at = at; event = begun } ∷ printed old.log) ≡ Some begun → IsFresh at (printed old.log)
@@ -103,7 +97,7 @@ pub refused_does : (command : LineCommand) (at : At) (old new : Run) (cause : Ca
 refused_does command at old new cause fresh is now =
     one_does command at old new (Refused cause) now (first_suits command at (printed old.log) (Refused cause) fresh (subst (λ (r : Option Cause). First command at (printed old.log) r (Refused cause)) (sym is) refl))
 
-reply_by : (o : Option Cause) (e : Event) → is_reply e ≡ true → is_reply (by_refusal o e) ≡ true
+pub reply_by : (o : Option Cause) (e : Event) → is_reply e ≡ true → is_reply (by_refusal o e) ≡ true
 reply_by None e reply = reply
 reply_by (Some cause) e reply = refl
 
@@ -137,15 +131,15 @@ open_replied at n t old new some now =
     row_replied at old new (refusal (Open n t) at.lane.0 (printed old.log)) (Opened n t (record { 0 = version_of n.0 (printed old.log) })) (number_told t.0 some) now
 
 pub close_does : (at : At) (t : TicketNo) (old new : Run) (o : Option Ticket) → open_ticket at.lane.0 t.0 (printed old.log) ≡ o → IsFresh at (printed old.log)
-    → IsNow old new (shown at (close_by t o) ∷ old.log) → Does (Close t) at old new
+    → IsNow old new (shown at (close_by t o) ∷ met_log at old new) → Does (Close t) at old new
 close_does at t old new None is fresh now =
-    refused_does (Close t) at old new NoTicket fresh (ap (λ (o : Option Ticket). when (not (is_some o)) NoTicket) is) now
+    refused_behind (Close t) at old new NoTicket (met_log at old new) (met_here (Close t) at old new fresh.replied) fresh (ap (λ (o : Option Ticket). when (not (is_some o)) NoTicket) is) now
 close_does at t old new (Some ticket) is fresh now =
-    row_does (Close t) at old new None (Closed (record { 0 = ticket.node }) t) (λ suits. suits) fresh (ap (λ (o : Option Ticket). when (not (is_some o)) NoTicket) is) now refl
+    row_behind (Close t) at old new None (Closed (record { 0 = ticket.node }) t) (met_log at old new) (met_here (Close t) at old new fresh.replied) (λ suits. suits) fresh (ap (λ (o : Option Ticket). when (not (is_some o)) NoTicket) is) now refl
 
-pub close_replied : (at : At) (t : TicketNo) (old new : Run) (o : Option Ticket) → IsNow old new (shown at (close_by t o) ∷ old.log) → IsReplied at new
-close_replied at t old new None now = one_replied at old new (Refused NoTicket) refl now
-close_replied at t old new (Some ticket) now = one_replied at old new (Closed (record { 0 = ticket.node }) t) refl now
+pub close_replied : (at : At) (t : TicketNo) (old new : Run) (o : Option Ticket) → IsNow old new (shown at (close_by t o) ∷ met_log at old new) → IsReplied at new
+close_replied at t old new None now = top_replied at new (Refused NoTicket) (met_log at old new) refl now.log
+close_replied at t old new (Some ticket) now = top_replied at new (Closed (record { 0 = ticket.node }) t) (met_log at old new) refl now.log
 
 -- ---- files
 
@@ -223,28 +217,28 @@ ask_begun at t old new Busy fresh starts = tt
 
 -- ---- answers
 
-pub answered_does : (command : LineCommand) (at : At) (old new : Run) (b : Bool) (begun answered : Event) → last_of_line at (printed old.log) ≡ Some begun → is_answered at (printed old.log) ≡ false
-    → (Suits command at (printed old.log) (last_of_line at (printed old.log)) answered → SuitsOrFault command at (printed old.log) answered)
-    → Follows command begun answered → Follows command begun (Refused Lost) → IsNow old new (shown at (if b then Refused Lost else answered) ∷ old.log) → Does command at old new
-answered_does command at old new true begun answered last unanswered lift follows late now =
-    one_does command at old new (Refused Lost) now (later_suits command at (printed old.log) begun (Refused Lost) last unanswered late)
-answered_does command at old new false begun answered last unanswered lift follows late now =
-    one_does command at old new answered now (lift (later_suits command at (printed old.log) begun answered last unanswered follows))
+pub answered_does : (command : LineCommand) (at : At) (old new : Run) (b : Bool) (begun answered : Event) (log : Log) → Meets false command at old.log log → last_of_line at (printed old.log) ≡ Some begun
+    → (Suits command at (printed log) (last_of_line at (printed log)) answered → SuitsOrFault command at (printed log) answered)
+    → Follows command begun answered → Follows command begun (Refused Lost) → IsNow old new (shown at (if b then Refused Lost else answered) ∷ log) → Does command at old new
+answered_does command at old new true begun answered log m last lift follows late now =
+    one_behind command at old new (Refused Lost) log m now (later_behind command at old.log log begun (Refused Lost) m last late)
+answered_does command at old new false begun answered log m last lift follows late now =
+    one_behind command at old new answered log m now (lift (later_behind command at old.log log begun answered m last follows))
 
 opened_answer : (command : LineCommand) (at : At) (n : NodeNo) (t : TicketNo) (v : Version) (query : Query) (answer : Answer) (old new : Run) → last_of_line at (printed old.log) ≡ Some (Opened n t v)
     → is_answered at (printed old.log) ≡ false → AsksFor command query (Some (Opened n t v))
-    → IsNow old new (shown at (answer_event (printed old.log) (before_start at (printed old.log)) (Opened n t v) n t v query answer) ∷ old.log) → Does command at old new
+    → IsNow old new (shown at (answer_event (printed old.log) (before_start at (printed old.log)) (Opened n t v) n t v query answer) ∷ met_log at old new) → Does command at old new
 opened_answer (Search m q) at n t v query answer old new last unanswered asks now =
-    answered_does (Search m q) at old new (is_lost (printed old.log) (before_start at (printed old.log)) (Opened n t v)) (Opened n t v) (Answered n t v query answer) last unanswered (λ suits. suits)
-    (asks.0, asks.1, sym asks.2) refl now
+    answered_does (Search m q) at old new (is_lost (printed old.log) (before_start at (printed old.log)) (Opened n t v)) (Opened n t v) (Answered n t v query answer) (met_log at old new) (met_here (Search m q) at old new unanswered) last
+    (λ suits. suits) (asks.0, asks.1, sym asks.2) refl now
 opened_answer command at n t v query answer old new last unanswered asks now = absurd asks
 
 asking_answer : (command : LineCommand) (at : At) (n : NodeNo) (t : TicketNo) (v : Version) (query : Query) (answer : Answer) (old new : Run) → last_of_line at (printed old.log) ≡ Some (Asking n t v)
     → is_answered at (printed old.log) ≡ false → AsksFor command query (Some (Asking n t v))
-    → IsNow old new (shown at (answer_event (printed old.log) (before_start at (printed old.log)) (Asking n t v) n t v query answer) ∷ old.log) → Does command at old new
+    → IsNow old new (shown at (answer_event (printed old.log) (before_start at (printed old.log)) (Asking n t v) n t v query answer) ∷ met_log at old new) → Does command at old new
 asking_answer (Ask u q) at n t v query answer old new last unanswered asks now =
-    answered_does (Ask u q) at old new (is_lost (printed old.log) (before_start at (printed old.log)) (Asking n t v)) (Asking n t v) (Answered n t v query answer) last unanswered (λ suits. suits)
-    (asks.0, sym asks.1) refl now
+    answered_does (Ask u q) at old new (is_lost (printed old.log) (before_start at (printed old.log)) (Asking n t v)) (Asking n t v) (Answered n t v query answer) (met_log at old new) (met_here (Ask u q) at old new unanswered) last
+    (λ suits. suits) (asks.0, sym asks.1) refl now
 asking_answer command at n t v query answer old new last unanswered asks now = absurd asks
 
 pub answer_does : (command : LineCommand) (at : At) (last : Option Event) (query : Query) (answer : Answer) (old new : Run) → last_of_line at (printed old.log) ≡ last → AreInTurn (printed old.log)
@@ -261,11 +255,11 @@ lost_reply false e reply = reply
 
 pub answer_replied : (at : At) (last : Option Event) (query : Query) (answer : Answer) (old new : Run) → AnswerEnds at last query answer old new → IsReplied at new
 answer_replied at (Some (Opened n t v)) query answer old new ends =
-    one_replied at old new (answer_event (printed old.log) (before_start at (printed old.log)) (Opened n t v) n t v query answer)
-    (lost_reply (is_lost (printed old.log) (before_start at (printed old.log)) (Opened n t v)) (Answered n t v query answer) refl) ends
+    top_replied at new (answer_event (printed old.log) (before_start at (printed old.log)) (Opened n t v) n t v query answer) (met_log at old new)
+    (lost_reply (is_lost (printed old.log) (before_start at (printed old.log)) (Opened n t v)) (Answered n t v query answer) refl) ends.log
 answer_replied at (Some (Asking n t v)) query answer old new ends =
-    one_replied at old new (answer_event (printed old.log) (before_start at (printed old.log)) (Asking n t v) n t v query answer)
-    (lost_reply (is_lost (printed old.log) (before_start at (printed old.log)) (Asking n t v)) (Answered n t v query answer) refl) ends
+    top_replied at new (answer_event (printed old.log) (before_start at (printed old.log)) (Asking n t v) n t v query answer) (met_log at old new)
+    (lost_reply (is_lost (printed old.log) (before_start at (printed old.log)) (Asking n t v)) (Answered n t v query answer) refl) ends.log
 answer_replied at e query answer old new ends = absurd ends
 
 -- ---- publish
@@ -337,46 +331,11 @@ publish_begun at old new (Work task) fresh starts = begun_by at old new Publishi
 publish_begun at old new Done fresh starts = tt
 publish_begun at old new Busy fresh starts = tt
 
--- the line added these entries, which are faults, to a log where it had this newest entry, and has no reply yet
-record Meets (command : LineCommand) (at : At) (base : Log) (last : Option Event) (log : Log) : Type 0 where
-  more : Log
-  log_is : log ≡ more ++ base
-  adds : AddsEntries false command at more base
-  unanswered : is_answered at (printed log) ≡ false
-  newest : last_of_line at (printed log) ≡ last
-
-meets_one : (command : LineCommand) (at : At) (base : Log) (last : Option Event) (n : ℕ) (kind : FaultKind) (log : Log) → Meets command at base last log → Meets command at base last (fault_by false at n kind ∷ log)
-meets_one command at base last n kind log m = record {
-  more = fault_by false at n kind ∷ m.more;
-  log_is = ap (λ (l : Log). fault_by false at n kind ∷ l) m.log_is;
-  adds = (refl, subst (λ (l : Log). is_answered at (printed l) ≡ false) m.log_is m.unanswered, m.adds);
-  unanswered = m.unanswered;
-  newest = both (same_at at at) (last_of_line at (printed log)) ∙ m.newest;
-}
-  where
-    both : {X : Type 0} → (b : Bool) (x : X) → (if b then x else x) ≡ x
-    both true x = refl
-    both false x = refl
-
 -- the faults that the line met, and then its reply
 met_does : (at : At) (old new : Run) (e : Event) → last_of_line at (printed old.log) ≡ Some Publishing → is_answered at (printed old.log) ≡ false → IsNow old new (shown at e ∷ met_log at old new) → Follows Publish Publishing e
-    → ((past : Past) → Suits Publish at past (last_of_line at past) e → SuitsOrFault Publish at past e) → Does Publish at old new
+    → (Suits Publish at (printed (met_log at old new)) (last_of_line at (printed (met_log at old new))) e → SuitsOrFault Publish at (printed (met_log at old new)) e) → Does Publish at old new
 met_does at old new e last unanswered now follows lift =
-    let m = met_has (Meets Publish at old.log (Some Publishing)) false at (λ n kind log is. meets_one Publish at old.log (Some Publishing) n kind log is) 1 (map failures_by_plan old.rest.plans) (map failures_by_plan new.rest.plans) old.log
-    (record { more = []; log_is = refl; adds = tt; unanswered = unanswered; newest = last }) in
-    record {
-      running = now.running;
-      nodes = now.nodes;
-      goes = record {
-        more = shown at e ∷ m.more;
-        log = now.log ∙ ap (λ (l : Log). shown at e ∷ l) m.log_is;
-        adds = (
-          refl,
-          subst (λ (l : Log). SuitsOrFault Publish at (printed l) e) m.log_is (lift (printed (met_log at old new)) (later_suits Publish at (printed (met_log at old new)) Publishing e m.newest m.unanswered follows)),
-          m.adds,
-        );
-      };
-    }
+    let m = met_here Publish at old new unanswered in one_behind Publish at old new e (met_log at old new) m now (lift (later_behind Publish at old.log (met_log at old new) Publishing e m last follows))
 
 pub published_does : (at : At) (old new : Run) → last_of_line at (printed old.log) ≡ Some Publishing → AreInTurn (printed old.log) → EndsPublish at old new → Does Publish at old new
 published_does at old new last turns = by (is_lost (printed old.log) (before_start at (printed old.log)) Publishing)
@@ -386,20 +345,16 @@ published_does at old new last turns = by (is_lost (printed old.log) (before_sta
 
     by : (b : Bool) → PublishEndsBy b at old new → Does Publish at old new
     by true now = one_does Publish at old new (Refused Lost) now (later_suits Publish at (printed old.log) Publishing (Refused Lost) last unanswered refl)
-    by false (true, ends) = met_does at old new (publish_reply true (printed old.log)) last unanswered ends.now tt (λ past suits. suits)
-    by false (false, ends) = met_does at old new (publish_reply false (printed old.log)) last unanswered ends.now refl (λ past suits. suits)
+    by false (true, ends) = met_does at old new (publish_reply true (printed old.log)) last unanswered ends.now tt (λ suits. suits)
+    by false (false, ends) = met_does at old new (publish_reply false (printed old.log)) last unanswered ends.now refl (λ suits. suits)
 
 pub published_replied : (at : At) (old new : Run) → EndsPublish at old new → IsReplied at new
 published_replied at old new = by (is_lost (printed old.log) (before_start at (printed old.log)) Publishing)
   where
-    replies : (e : Event) (log : Log) → is_reply e ≡ true → new.log ≡ shown at e ∷ log → IsReplied at new
-    replies e log reply is =
-        subst (λ (l : Log). is_answered at (printed l) ≡ true) (sym is) (replied_by (is_reply e) (same_at at at) (is_answered at (printed log)) reply (same_at_self at))
-
     by : (b : Bool) → PublishEndsBy b at old new → IsReplied at new
     by true now = one_replied at old new (Refused Lost) refl now
-    by false (true, ends) = replies (publish_reply true (printed old.log)) (met_log at old new) refl ends.now.log
-    by false (false, ends) = replies (publish_reply false (printed old.log)) (met_log at old new) refl ends.now.log
+    by false (true, ends) = top_replied at new (publish_reply true (printed old.log)) (met_log at old new) refl ends.now.log
+    by false (false, ends) = top_replied at new (publish_reply false (printed old.log)) (met_log at old new) refl ends.now.log
 
 -- ---- in the terms of a call, whose cluster has this state
 

@@ -1,4 +1,5 @@
 pub mod Does
+pub mod MetDoes
 mod CopyDoes
 mod SettleStays
 mod LifeDoes

@@ -1,5 +1,5 @@
 -- What merge and drain lines do for them, and what calls of tasks do for whoever took the task, from the entries that they add.
-use Rattle.std.proofs.Common.{◌≡◌, ◌≢◌, ◌≤◌, ◌==◌, ℕ, Bool, true, false, List, [], ◌∷◌, ◌++◌, Option, Some, None, is_some, refl, ap, ◌∙◌, sym, subst, inl, inr, true≢false}
+use Rattle.std.proofs.Common.{◌≡◌, ◌≢◌, ◌≤◌, ◌==◌, ◌⊎◌, ℕ, Bool, true, false, List, [], ◌∷◌, ◌++◌, Option, Some, None, is_some, map, refl, ap, ◌∙◌, sym, subst, inl, inr, true≢false}
 use Rattle.std.specs.Prelude.{is_none}
 use Rattle.nrt_base.specs.SegNumbers.{segments_of_generation}
 use Rattle.nrt_base.specs.declared.numbers.At.{At}
@@ -8,13 +8,17 @@ use Rattle.nrt_base.specs.declared.numbers.NodeNo.{NodeNo}
 use Rattle.nrt_base.specs.declared.numbers.SegNo.{SegNo}
 use Rattle.history_rules.specs.declared.cause.Cause.{Cause}
 use Rattle.history_rules.specs.declared.cause.Cause.TheVariants.{NoPrimary, Nothing, NamesSpent}
-use Rattle.history_rules.specs.declared.entry.Event.TheVariants.{Merging, Drained, Refused}
+use Rattle.history_rules.specs.declared.cause.FaultKind.{FaultKind}
+use Rattle.history_rules.specs.declared.entry.Event.TheVariants.{Merging, Drained, Fault, Refused}
 use Rattle.history_rules.specs.Nodes.{primary_of}
 use Rattle.history_rules.specs.Lines.{same_at, is_answered}
 use Rattle.history_tables.proofs.RowLemmas.{same_at_self}
 use Rattle.history_book.specs.Laws.{IsFresh}
-use Rattle.history_book.specs.Log.{Log, printed, shown, kept, name_by}
+use Rattle.history_book.specs.Log.{Log, printed, shown, kept, name_by, name_inside, FollowsMerging, FaultsFollow}
+use Rattle.link_model.specs.declared.fate.Fate.TheVariants.{Whole}
 use Rattle.history_book.specs.declared.inner.Inner.TheVariants.{MergeOut, MergeEnd, JobBegun, FileOut, TaskOut, TaskEnd}
+use Rattle.history_book.specs.declared.inner.Inner.{Inner}
+use Rattle.history_book.specs.declared.inner.Step.{Step}
 use Rattle.history_book.specs.declared.inner.Step.TheVariants.{Merge as MergeStep, PreCopy as PreCopyStep, Cut as CutStep}
 use Rattle.script_serving.specs.declared.script.LineCommand.TheVariants.{Merge, Drain}
 use Rattle.script_serving.specs.Refusals.{when, may_be_refused}
@@ -25,15 +29,19 @@ use Rattle.history_book.specs.Told.{counted_for}
 use Rattle.merge_tasks.specs.Board.{step_of}
 use Rattle.cluster_state.specs.Given.{FileTask}
 use Rattle.cluster_state.specs.Run.{Run, IsNow}
-use Rattle.cluster_merges.specs.MergePaths.{IsAsBefore, TakesTask, EndsBuild, begun_log}
+use Rattle.cluster_state.specs.Met.{failures_by_plan, fault_by}
+use Rattle.cluster_state.specs.GivesUp.{task_met_log}
+use Rattle.cluster_state.proofs.Faulted.{met_has}
+use Rattle.cluster_merges.specs.MergePaths.{IsAsBefore, TakesTask, EndsBuild, EndsMerge, EndsCopyTask, begun_log}
 use Rattle.cluster_state.specs.declared.turn.Turn.{Turn}
 use Rattle.cluster_state.specs.declared.turn.Turn.TheVariants.{Work, Done, Busy}
-use Rattle.cluster_merges.specs.TaskCalls.{RefusesMerge, StartsOrRefuses, MergeLine, EndsCopyOnce, PrecopyTurns, PartTurns, CutsOnce, CutTurns, DrainTurns}
-use Rattle.lane_threads.specs.Owes.{AddsByTask, GoesByTask}
+use Rattle.cluster_merges.specs.TaskCalls.{RefusesMerge, StartsOrRefuses, MergeLine, EndsCopyOnce, PrecopyTurns, PartEnds, PartTurns, CutsOnce, CutTurns, DrainTurns}
+use Rattle.lane_threads.specs.Owes.{AddsByTask}
 use Rattle.lane_threads.proofs.WalkLemmas.{lane_self}
 use Rattle.cluster_core.specs.Doing.{Does, IsReplied, IsRepliedAtDone}
 use Rattle.cluster_core.specs.Tasks.{DoesTask}
-use Rattle.cluster_core.proofs.Does.{one_does, none_does, first_suits, refused_does, one_replied, replied_by}
+use Rattle.cluster_core.proofs.Does.{one_does, none_does, first_suits, refused_does, one_replied}
+use Rattle.cluster_core.proofs.MetDoes.{replied_by}
 
 -- ---- merge lines
 
@@ -110,12 +118,39 @@ drain_replied at most old new (Work w) turns = absurd turns
 drain_replied at most old new Busy turns = tt
 drain_replied at most old new Done turns = one_replied at old new (Drained (counted_for at old.log) most) refl turns.0.is
 
+-- ---- faults of tasks
+
+-- faults that a task met, and entries of inner work for its taker or for nobody, were added to a log
+record TaskMeets (seat : ℕ) (base log : Log) : Type 0 where
+  more : Log
+  log_is : log ≡ more ++ base
+  adds : FaultsFollow log → AddsByTask false seat more base
+
+task_kept : (seat : ℕ) (base log : Log) (i : Inner) → (name_inside i ≡ seat) ⊎ (name_inside i ≡ 0) → TaskMeets seat base log → TaskMeets seat base (kept i ∷ log)
+task_kept seat base log i named m = record { more = kept i ∷ m.more; log_is = ap (λ (l : Log). kept i ∷ l) m.log_is; adds = λ follow. (named, m.adds follow) }
+
+task_fault : (seat : ℕ) (base : Log) (at : At) (n : ℕ) (kind : FaultKind) (log : Log) → TaskMeets seat base log → TaskMeets seat base (fault_by true at n kind ∷ log)
+task_fault seat base at n kind log m = record {
+  more = fault_by true at n kind ∷ m.more;
+  log_is = ap (λ (l : Log). fault_by true at n kind ∷ l) m.log_is;
+  adds = λ follow. (subst (λ (l : Log). FollowsMerging at (Fault (record { 0 = n }) kind) (printed l)) m.log_is follow.0, refl, m.adds follow.1);
+}
+
+-- those of disks that rose in a call of the task
+task_met : (seat : ℕ) (at : At) (old new : Run) → TaskMeets seat old.log (task_met_log at old new)
+task_met seat at old new =
+    met_has (TaskMeets seat old.log) true at (λ n kind log m. task_fault seat old.log at n kind log m) 1 (map failures_by_plan old.rest.plans) (map failures_by_plan new.rest.plans) old.log (record { more = []; log_is = refl; adds = λ follow. tt })
+
 -- ---- tasks
 
 module _ (by : Option At) (old new : Run) where
   -- these entries were added
   task_does : (more : Log) → IsNow old new (more ++ old.log) → AddsByTask false (name_by by) more old.log → DoesTask by old new
   task_does more now adds = record { running = now.running; nodes = now.nodes; goes = record { more = more; log = now.log; adds = adds } }
+
+  -- such were added
+  met_does : (log : Log) → TaskMeets (name_by by) old.log log → IsNow old new log → FaultsFollow new.log → DoesTask by old new
+  met_does log m now follow = task_does m.more (subst (IsNow old new) m.log_is now) (m.adds (subst FaultsFollow now.log follow))
 
   stays_does : IsAsBefore old new → DoesTask by old new
   stays_does same = task_does [] same.is tt
@@ -125,52 +160,65 @@ module _ (by : Option At) (old new : Run) where
   taken_does (Some task) takes = task_does (kept (TaskOut task.line task.seg by (step_of task.kind)) ∷ []) takes.taken.is (inl refl, tt)
 
   -- copies begin for nobody
-  begun_goes : (line : LineNo) (sent : List Sent) (log : Log) → GoesByTask false (name_by by) old.log log → GoesByTask false (name_by by) old.log (begun_log line sent log)
-  begun_goes line [] log goes = goes
-  begun_goes line (s ∷ sent) log goes =
-      begun_goes line sent (kept (JobBegun line s.node s.job None None) ∷ log) (record {
-        more = kept (JobBegun line s.node s.job None None) ∷ goes.more;
-        log = ap (λ (l : Log). kept (JobBegun line s.node s.job None None) ∷ l) goes.log;
-        adds = (inr refl, goes.adds);
-      })
+  begun_meets : (line : LineNo) (sent : List Sent) (log : Log) → TaskMeets (name_by by) old.log log → TaskMeets (name_by by) old.log (begun_log line sent log)
+  begun_meets line [] log m = m
+  begun_meets line (s ∷ sent) log m =
+      begun_meets line sent (kept (JobBegun line s.node s.job None None) ∷ log) (task_kept (name_by by) old.log log (JobBegun line s.node s.job None None) (inr refl) m)
 
-  pub built_does : (line : LineNo) (seg : SegNo) (unwritten : Bool) → EndsBuild line seg by old new unwritten → DoesTask by old new
-  built_does line seg false ends = stays_does ends
-  built_does line seg true ends =
-      let is = ends.writes.is in
-      let begun = begun_goes line ends.sent old.log (record { more = []; log = refl; adds = tt }) in
-      record {
-        running = is.running;
-        nodes = is.nodes;
-        goes = record {
-          more = kept (TaskEnd line seg by MergeStep true) ∷ begun.more;
-          log = is.log ∙ ap (λ (l : Log). kept (TaskEnd line seg by MergeStep true) ∷ l) begun.log;
-          adds = (inl refl, begun.adds);
-        };
-      }
+  -- a merge has ended, and its task
+  merge_ends : (line : LineNo) (seg : SegNo) (step : Step) (cut : Bool) → FaultsFollow new.log → EndsMerge line seg by step cut old new → DoesTask by old new
+  merge_ends line seg step cut follow ends =
+      let met : Log = task_met_log ends.at old new in
+      let merge : TaskMeets (name_by by) old.log (kept (MergeEnd seg cut) ∷ met) = task_kept (name_by by) old.log met (MergeEnd seg cut) (inr refl) (task_met (name_by by) ends.at old new) in
+      met_does (kept (TaskEnd line seg by step true) ∷ kept (MergeEnd seg cut) ∷ met) (task_kept (name_by by) old.log (kept (MergeEnd seg cut) ∷ met) (TaskEnd line seg by step true) (inl refl) merge) ends.ends.is follow
 
-  copied_once : (line : LineNo) (seg : SegNo) (n : NodeNo) (job : ℕ) (sent : Bool) → EndsCopyOnce line seg by n job old new sent → DoesTask by old new
-  copied_once line seg n job true ends = task_does (kept (TaskEnd line seg by (PreCopyStep n job) true) ∷ []) ends.0.is (inl refl, tt)
-  copied_once line seg n job false ends = stays_does ends
+  pub built_does : (line : LineNo) (seg : SegNo) (unwritten : Bool) → FaultsFollow new.log → EndsBuild line seg by old new unwritten → DoesTask by old new
+  built_does line seg false follow ends = stays_does ends
+  built_does line seg true follow (inl writes) =
+      let begun : Log = begun_log line writes.sent (task_met_log writes.at old new) in
+      met_does (kept (TaskEnd line seg by MergeStep true) ∷ begun)
+      (task_kept (name_by by) old.log begun (TaskEnd line seg by MergeStep true) (inl refl) (begun_meets line writes.sent (task_met_log writes.at old new) (task_met (name_by by) writes.at old new))) writes.writes.is follow
+  built_does line seg true follow (inr gives_up) = merge_ends line seg MergeStep false follow gives_up.merge
 
-  pub copy_does : (line : LineNo) (seg : SegNo) (n : NodeNo) (job : ℕ) (turn : Turn FileTask) → PrecopyTurns line seg by n job old new turn → DoesTask by old new
-  copy_does line seg n job (Work file) turns = task_does (kept (FileOut line n job file.name file.source None) ∷ []) turns.1.hands.is (inr refl, tt)
-  copy_does line seg n job Busy turns = stays_does turns.2
-  copy_does line seg n job Done turns = copied_once line seg n job _ turns
+  -- the task of a copy has ended
+  copy_ends : (line : LineNo) (seg : SegNo) (n : NodeNo) (job : ℕ) → FaultsFollow new.log → EndsCopyTask line seg by n job old new → DoesTask by old new
+  copy_ends line seg n job follow ends =
+      let met : Log = task_met_log ends.at old new in
+      met_does (kept (TaskEnd line seg by (PreCopyStep n job) true) ∷ met)
+      (task_kept (name_by by) old.log met (TaskEnd line seg by (PreCopyStep n job) true) (inl refl) (task_met (name_by by) ends.at old new)) ends.ends.is follow
 
-  pub part_does : (seg : SegNo) (n : NodeNo) (job : ℕ) (turn : Turn (Unit {0})) → PartTurns seg n job old new turn → DoesTask by old new
-  part_does seg n job (Work w) turns = stays_does turns.0
-  part_does seg n job Done turns = stays_does turns.0
-  part_does seg n job Busy turns = absurd turns
+  copied_once : (line : LineNo) (seg : SegNo) (n : NodeNo) (job : ℕ) (sent : Bool) → FaultsFollow new.log → EndsCopyOnce line seg by n job old new sent → DoesTask by old new
+  copied_once line seg n job true follow (inl ends) = copy_ends line seg n job follow ends.0
+  copied_once line seg n job true follow (inr fails) = copy_ends line seg n job follow fails.0
+  copied_once line seg n job false follow ends = stays_does ends
 
-  cut_once : (line : LineNo) (seg : SegNo) (copied : Bool) → CutsOnce line seg by old new copied → DoesTask by old new
-  cut_once line seg true cuts = task_does (kept (TaskEnd line seg by CutStep true) ∷ kept (MergeEnd seg true) ∷ []) cuts.0.cuts.is (inl refl, (inr refl, tt))
-  cut_once line seg false cuts = stays_does cuts
+  pub copy_does : (line : LineNo) (seg : SegNo) (n : NodeNo) (job : ℕ) (turn : Turn FileTask) → FaultsFollow new.log → PrecopyTurns line seg by n job old new turn → DoesTask by old new
+  copy_does line seg n job (Work file) follow turns =
+      let hands = turns.1 in
+      let out : Inner = FileOut line n job file.name file.source Whole None in
+      let met : Log = task_met_log hands.at old new in
+      met_does (kept out ∷ met) (task_kept (name_by by) old.log met out (inr refl) (task_met (name_by by) hands.at old new)) hands.hands.is follow
+  copy_does line seg n job Busy follow turns = stays_does turns.2
+  copy_does line seg n job Done follow turns = copied_once line seg n job _ follow turns
 
-  pub cut_does : (line : LineNo) (seg : SegNo) (turn : Turn (Unit {0})) → CutTurns line seg by old new turn → DoesTask by old new
-  cut_does line seg (Work w) turns = absurd turns
-  cut_does line seg Busy turns = stays_does turns.0
-  cut_does line seg Done turns = cut_once line seg _ turns
+  part_ends : (line : LineNo) (seg : SegNo) (n : NodeNo) (job : ℕ) (there : Bool) → FaultsFollow new.log → PartEnds line seg by n job old new there → DoesTask by old new
+  part_ends line seg n job true follow fails = copy_ends line seg n job follow fails.0
+  part_ends line seg n job false follow ends = stays_does ends
+
+  pub part_does : (line : LineNo) (seg : SegNo) (n : NodeNo) (job : ℕ) (turn : Turn (Unit {0})) → FaultsFollow new.log → PartTurns line seg by n job old new turn → DoesTask by old new
+  part_does line seg n job (Work w) follow turns = met_does (task_met_log turns.0.at old new) (task_met (name_by by) turns.0.at old new) turns.0.meets.is follow
+  part_does line seg n job Done follow turns = part_ends line seg n job _ follow turns
+  part_does line seg n job Busy follow turns = absurd turns
+
+  cut_once : (line : LineNo) (seg : SegNo) (copied : Bool) → FaultsFollow new.log → CutsOnce line seg by old new copied → DoesTask by old new
+  cut_once line seg true follow (inl ends, calm) = merge_ends line seg CutStep true follow ends
+  cut_once line seg true follow (inr gives_up, calm) = merge_ends line seg CutStep false follow gives_up.merge
+  cut_once line seg false follow cuts = stays_does cuts
+
+  pub cut_does : (line : LineNo) (seg : SegNo) (turn : Turn (Unit {0})) → FaultsFollow new.log → CutTurns line seg by old new turn → DoesTask by old new
+  cut_does line seg (Work w) follow turns = absurd turns
+  cut_does line seg Busy follow turns = stays_does turns.0
+  cut_does line seg Done follow turns = cut_once line seg _ follow turns
 
 -- in the terms of a call, whose cluster has this state
 pub task_was : (by : Option At) (s r new : Run) → s ≡ r → DoesTask by s new → DoesTask by r new

@@ -9,6 +9,7 @@ use Rattle.std.proofs.lemmas.Option.{same_Some}
 use Rattle.nrt_base.specs.declared.numbers.At.{At}
 use Rattle.nrt_base.specs.declared.numbers.NodeNo.{NodeNo}
 use Rattle.nrt_base.specs.declared.numbers.Version.{Version}
+use Rattle.history_rules.specs.declared.cause.Cause.TheVariants.{DiskFault}
 use Rattle.history_rules.specs.declared.entry.Event.{Event}
 use Rattle.history_rules.specs.declared.entry.Event.TheVariants.{Switched, Settling, Refused}
 use Rattle.history_rules.specs.Nodes.{Past, newest_version, version_of}
@@ -21,12 +22,14 @@ use Rattle.history_book.specs.Log.{Log, printed, shown}
 use Rattle.history_book.proofs.ReignLaws.{start_kept}
 use Rattle.cluster_state.specs.Given.{FileTask, SettleTask}
 use Rattle.cluster_state.specs.Run.{Run, IsNow}
+use Rattle.cluster_state.specs.GivesUp.{met_log}
 use Rattle.cluster_state.specs.Copies.{ended_log}
 use Rattle.cluster_state.specs.Settles.{IsLeft, IsSettling}
 use Rattle.cluster_state.specs.declared.standing.Standing.{Standing}
 use Rattle.cluster_state.specs.declared.standing.Standing.TheVariants.{Runs, Passed, Ends}
 use Rattle.cluster_state.specs.declared.turn.Turn.{Turn}
 use Rattle.cluster_state.specs.declared.turn.Turn.TheVariants.{Work, Done, Busy}
+use Rattle.cluster_state.proofs.MetLines.{met_settling}
 use Rattle.cluster_state.specs.CopyCalls.{standing_of, log_after, stopped_log, JobSteps, AreFrom, SettlesOn}
 
 all_step : (P R Q : NodeNo → Type 0) (xs : List NodeNo) → ((n : NodeNo) → P n → R n → Q n) → All P xs → All R xs → All Q xs
@@ -87,16 +90,20 @@ steps_on : (size : ℕ) (row : JobRow) (left : SettleTask) (s new : Run) (turn :
     → left.version.0 ≤ row.job.version.0 → JobSteps (stopped_log (Settling left.version) row s.log) row.job s new turn → SettlesOn row.job.at left new
 steps_on size row left s new turn nodes settling from reached steps = by (stopped_log (Settling left.version) row s.log) refl turn steps
   where
+    here : IsSettling size (printed (met_log row.job.at s new)) row.job.at left
+    here = met_settling row.job.at s new size left settling
+
     whole : (log : Log) → new.nodes ≡ s.nodes → new.log ≡ log → (open_line row.job.at (printed log) ≢ None → IsSettling size (printed log) row.job.at left) → SettlesOn row.job.at left new
     whole log same is on = subst (λ (x : ℕ × Log). open_line row.job.at (printed x.1) ≢ None → IsSettling x.0 (printed x.1) row.job.at left) (λ i. ((nodes ∙ sym same) i, sym is i)) on
 
     by : (o : Option Log) → stopped_log (Settling left.version) row s.log ≡ o → (turn : Turn FileTask) → JobSteps o row.job s new turn → SettlesOn row.job.at left new
     by (Some log) is turn steps =
         whole log steps.1.nodes steps.1.log (stopped_stays size row.job.at left (standing_of (Settling left.version) row (printed s.log)) s.log log is settling)
-    by None is (Work file) steps = whole _ steps.now.nodes steps.now.log (λ line. settling)
-    by None is Done steps =
-        let now = subst (λ (o : Option Event). IsNow s new (ended_log row.job o s.log)) settling.started steps in
-        whole _ now.nodes now.log (λ line. switched_stays size (printed s.log) row.job.at left row.job.node row.job.version reached from settling)
+    by None is (Work file) steps = whole _ steps.now.nodes steps.now.log (λ line. here)
+    by None is Done (inl ends) =
+        let now = subst (λ (o : Option Event). IsNow s new (ended_log row.job o (met_log row.job.at s new))) settling.started ends in
+        whole _ now.nodes now.log (λ line. switched_stays size (printed (met_log row.job.at s new)) row.job.at left row.job.node row.job.version reached from here)
+    by None is Done (inr refused) = whole _ refused.now.nodes refused.now.log (λ line. absurd (line (refused_closed row.job.at (printed (met_log row.job.at s new)) DiskFault)))
     by None is Busy steps = absurd steps
 
 -- ---- in the terms of a call

@@ -20,6 +20,7 @@ impl<D: FaultDir + Drop> Cluster<D> {
     ghost use Rattle.history_book.specs.Log.{printed, shown};
     ghost use Rattle.script_serving.specs.declared.script.LineCommand.{LineCommand};
     ghost use Rattle.script_serving.specs.declared.script.LineCommand.TheVariants.{Open, Close, Search, Ask, Files};
+    ghost use Rattle.cluster_state.specs.GivesUp.{met_log};
     ghost use Rattle.cluster_state.specs.Run.{IsNow, KeepsRest, IsEnded};
     ghost use Rattle.cluster_core.specs.Doing.{Does, IsReplied, IsRepliedAtDone, IsBegunAtWork, AsksFor};
     ghost use Rattle.cluster_state.specs.Calls.{open_event, ListsFiles, SearchStarts, AskStarts, asked_event, close_by, ScansAt, AnswerEnds};
@@ -93,7 +94,8 @@ impl<D: FaultDir + Drop> Cluster<D> {
         ask_start(&mut self.state, alloc, at, t)
     }
 
-    /// Ends a search with its answer, or refuses the line as lost exactly where its node has crashed since.
+    /// Ends a search with its answer, or refuses the line as lost exactly where its node has crashed since; behind the faults of disks that
+    /// giving its files back met.
     pub fn answer_end(
         &mut self,
         alloc: Global,
@@ -119,12 +121,13 @@ impl<D: FaultDir + Drop> Cluster<D> {
         answer_end(&mut self.state, alloc, at, query, answer)
     }
 
-    /// Closes a ticket of the lane.
-    pub fn ticket_close(&mut self, at: At, t: TicketNo) -> Result<(), NoMemory>
+    /// Closes a ticket of the lane, behind the faults of disks that giving its files back met.
+    pub fn ticket_close(&mut self, alloc: Global, at: At, t: TicketNo) -> Result<(), NoMemory>
         requires running { self.old.ended ≡ false }
         requires fresh { entries_of_line at (printed self.old.log) ≡ [] }
         ensures ok { OnOk result (IsNow self.old self.new (shown at
-            (close_by t (open_ticket at.lane.0 t.0 (printed self.old.log))) ∷ self.old.log)) }
+            (close_by t (open_ticket at.lane.0 t.0 (printed self.old.log)))
+            ∷ met_log at self.old self.new)) }
         ensures rest { OnOk result (KeepsRest self.old self.new) }
         ensures err { OnErr result (IsEnded self.old self.new) }
 
@@ -132,7 +135,7 @@ impl<D: FaultDir + Drop> Cluster<D> {
         ensures does { OnOk result (Does (Close t) at self.old self.new) }
         ensures replied { OnOk result (IsReplied at self.new) }
     {
-        ticket_close(&mut self.state, at, t)
+        ticket_close(&mut self.state, alloc, at, t)
     }
 
     /// Lists the files of a node.

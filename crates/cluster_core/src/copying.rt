@@ -28,10 +28,11 @@ impl<D: FaultDir + Drop> Cluster<D> {
     ghost use Rattle.cluster_state.specs.Settles.{IsSettling};
     ghost use Rattle.cluster_state.specs.declared.turn.Turn.TheVariants.{Done};
     ghost use Rattle.cluster_core.specs.Doing.{Does, IsReplied, IsRepliedAtDone, IsBegunAtWork};
-    ghost use Rattle.cluster_state.specs.CopyCalls.{CopiesFor, CopyStarts, CopyStartsWhen, stopped_log, StopsTurn, JobGoesOn, JobHasPart, AreFrom, SettlesOn, SettleStarts, SettleGoesOn};
+    ghost use Rattle.cluster_state.specs.CopyCalls.{CopiesFor, CopyStarts, CopyStartsWhen, stopped_log, StopsTurn, JobGoesOn, JobTakes, AreFrom, SettlesOn, SettleStarts, SettleGoesOn};
 
     /// Starts a copy of the newest point to a node. Busy comes exactly where the line is not refused and a job for the newest version
-    /// runs at the node, which is behind that version.
+    /// runs at the node, which is behind that version. Where the disk of the source fails, by a plan that the history shows, the line is
+    /// refused once it has started.
     pub fn copy_start(
         &mut self,
         alloc: Global,
@@ -55,7 +56,7 @@ impl<D: FaultDir + Drop> Cluster<D> {
     }
 
     /// Hands out the next file of a job. Done says that the job has ended: no file was missing, and its node has switched; or the line
-    /// was refused; or the line is a settle and the node has crashed.
+    /// was refused, also where a disk failed, by a plan that the history shows; or the line is a settle and the node has crashed.
     pub fn copy_next(
         &mut self,
         alloc: Global,
@@ -94,10 +95,11 @@ impl<D: FaultDir + Drop> Cluster<D> {
         copy_next(&mut self.state, alloc, row)
     }
 
-    /// Takes a part of a file that was handed out. Done says that the job has ended: the line was refused, or it is a settle and the
-    /// node has crashed.
+    /// Takes a part of a file that was handed out. Done says that the job has ended: the line was refused, also where a disk failed, by a plan
+    /// that the history shows; or it is a settle and the node has crashed.
     pub fn copy_arrived(
         &mut self,
+        alloc: Global,
         at: At,
         task: &CopyTask,
         part: Part,
@@ -110,7 +112,7 @@ impl<D: FaultDir + Drop> Cluster<D> {
 
         // a job that runs, and one that was stopped
         ensures ok { IfOk result (λ turn. (row : JobRow) → JobRuns self.old.log row
-            → row.job.at ≡ at → JobHasPart row.job.node part.name self.old self.new turn) }
+            → row.job.at ≡ at → JobTakes row.job part.name self.old self.new turn) }
         ensures stops { IfOk result (λ turn. (row : JobRow) (begun : Event) (log : Log)
             → job_of at.lane.0 self.old.log ≡ Some row
             → start_entry at (printed self.old.log) ≡ Some begun
@@ -127,7 +129,7 @@ impl<D: FaultDir + Drop> Cluster<D> {
             unreachable!()
         };
         self.state.book().is_legal();
-        copy_arrived(&mut self.state, row, part)
+        copy_arrived(&mut self.state, alloc, row, part)
     }
 
     /// Starts a settle.
@@ -148,6 +150,7 @@ impl<D: FaultDir + Drop> Cluster<D> {
 
     /// Begins the job of the next replica that a settle waits for. Where none is left the line has its reply, and where its source has
     /// crashed it is refused as lost. Busy comes exactly where the settle waits for a replica and a job for the newest version runs there.
+    /// Where the disk of the source fails, by a plan that the history shows, the line is refused.
     pub fn settle_next(
         &mut self,
         alloc: Global,

@@ -8,6 +8,7 @@ mod cluster;
 mod copying;
 mod lasting;
 mod merging;
+mod planning;
 mod promoting;
 mod shared;
 

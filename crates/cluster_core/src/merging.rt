@@ -55,7 +55,8 @@ impl<D: FaultDir + Drop> Cluster<D> {
         task_take(&mut self.state, by)
     }
 
-    /// Writes the merged segment of a task, and begins a copy of it to each replica that runs. Where the task has ended nothing changes.
+    /// Writes the merged segment of a task, and begins a copy of it to each replica that runs. Where the primary's disk fails, by a plan that
+    /// the history shows, the merge is given up. Where the task has ended nothing changes.
     pub fn merge_ready(
         &mut self,
         alloc: Global,
@@ -71,7 +72,9 @@ impl<D: FaultDir + Drop> Cluster<D> {
         // what its taker is owed
         ensures does { OnOk result (DoesTask task.now.by self.old self.new) }
     {
-        merge_ready(&mut self.state, alloc, task.line, task.seg, task.by, merged)
+        let ended = merge_ready(&mut self.state, alloc, task.line, task.seg, task.by, merged);
+        self.state.book().is_legal();
+        ended
     }
 
     /// Hands out the next file of the copy of a task. Done says that the task has ended. Busy comes exactly where it has not, the copy
@@ -91,7 +94,7 @@ impl<D: FaultDir + Drop> Cluster<D> {
         // what its taker is owed
         ensures does { OnOk result (DoesTask task.now.by self.old self.new) }
     {
-        precopy_next(
+        let ended = precopy_next(
             &mut self.state,
             alloc,
             task.line,
@@ -99,12 +102,16 @@ impl<D: FaultDir + Drop> Cluster<D> {
             task.by,
             copy.node,
             copy.job,
-        )
+        );
+        self.state.book().is_legal();
+        ended
     }
 
-    /// Puts a part into the copy of a task. Done says that the task has ended.
+    /// Puts a part into the copy of a task. Done says that the task has ended, also where the disk of the node failed, by a plan that the
+    /// history shows.
     pub fn precopy_arrived(
         &mut self,
+        alloc: Global,
         task: &Task,
         copy: Sent,
         part: Part,
@@ -113,17 +120,29 @@ impl<D: FaultDir + Drop> Cluster<D> {
         requires node { IsNode self.old.nodes copy.node.0 }
         requires out { carried_out part.name self.old.log ≡ Some part.bytes }
         requires meta { IsMetaOf part.bytes part.meta }
-        ensures ok { IfOk result (PartTurns task.now.seg copy.node copy.job self.old self.new) }
+        ensures ok { IfOk result (PartTurns task.now.line task.now.seg task.now.by
+            copy.node copy.job self.old self.new) }
         ensures err { OnErr result (IsEnded self.old self.new) }
 
         // what its taker is owed
         ensures does { OnOk result (DoesTask task.now.by self.old self.new) }
     {
-        precopy_arrived(&mut self.state, task.seg, copy.node, copy.job, part)
+        let ended = precopy_arrived(
+            &mut self.state,
+            alloc,
+            task.line,
+            task.seg,
+            task.by,
+            copy.node,
+            copy.job,
+            part,
+        );
+        self.state.book().is_legal();
+        ended
     }
 
-    /// Cuts the merge of a task over. Busy comes exactly where it is to be cut over and a publish is in flight; where the task has ended
-    /// nothing changes.
+    /// Cuts the merge of a task over, or gives it up where the primary's disk fails, by a plan that the history shows. Busy comes exactly where
+    /// it is to be cut over and a publish is in flight; where the task has ended nothing changes.
     pub fn merge_cut(&mut self, alloc: Global, task: &Task) -> Result<Turn<()>, NoMemory>
         requires running { self.old.ended ≡ false }
         ensures ok { IfOk result (CutTurns task.now.line task.now.seg task.now.by
@@ -133,7 +152,9 @@ impl<D: FaultDir + Drop> Cluster<D> {
         // what its taker is owed
         ensures does { OnOk result (DoesTask task.now.by self.old self.new) }
     {
-        merge_cut(&mut self.state, alloc, task.line, task.seg, task.by)
+        let ended = merge_cut(&mut self.state, alloc, task.line, task.seg, task.by);
+        self.state.book().is_legal();
+        ended
     }
 
     /// How many tasks count for a drain line.

@@ -13,6 +13,7 @@ impl<D: FaultDir + Drop> Cluster<D> {
     ghost use Rattle.history_rules.specs.Lines.{entries_of_line};
     ghost use Rattle.history_book.specs.Log.{printed, shown};
     ghost use Rattle.script_serving.specs.declared.script.LineCommand.TheVariants.{Promote};
+    ghost use Rattle.cluster_state.specs.GivesUp.{met_log};
     ghost use Rattle.cluster_state.specs.Run.{IsNow, IsEnded};
     ghost use Rattle.cluster_core.specs.Doing.{Does, IsReplied};
     ghost use Rattle.cluster_recovery.specs.PromoteCalls.{promote_event};
@@ -31,7 +32,8 @@ impl<D: FaultDir + Drop> Cluster<D> {
         requires fresh { entries_of_line at (printed self.old.log) ≡ [] }
         requires node { IsNode self.old.nodes n.0 }
         ensures ok { OnOk result (IsNow self.old self.new
-            (shown at (promote_event at.lane.0 n force (printed self.old.log)) ∷ self.old.log)) }
+            (shown at (promote_event at.lane.0 n force (printed self.old.log))
+            ∷ met_log at self.old self.new)) }
         ensures err { OnErr result (IsEnded self.old self.new) }
 
         // what the line is owed

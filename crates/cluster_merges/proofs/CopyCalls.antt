@@ -1,5 +1,5 @@
 -- The next step of a copy of a merged segment, and a part that comes to one, in the terms of a call.
-use Rattle.std.proofs.Common.{◌≡◌, ◌++◌, ℕ, zero, suc, Bool, true, false, true≢false, List, [], ◌∷◌, Some, None, Option, Vec, Global, is_some, refl, ap, ◌∙◌, sym, subst}
+use Rattle.std.proofs.Common.{◌≡◌, ℕ, zero, suc, Bool, true, false, true≢false, List, [], Some, None, Option, Vec, Global, is_some, refl, ap, ◌∙◌, sym, subst}
 use Rattle.std.specs.Prelude.{unwrap_or, option_map, IfSome, IsSome, IsSomeAnd}
 use Rattle.std.specs.List.{slice_get}
 use Rattle.std.proofs.lemmas.Option.{slice_get-map}
@@ -17,68 +17,33 @@ use Rattle.replica_node.specs.declared.parts.ReplicaParts.{ReplicaParts}
 use Rattle.replica_node.specs.Merges.{copy_at}
 use Rattle.history_rules.specs.Nodes.{IsNode, primary_of}
 use Rattle.history_rules.specs.Legal.{IsLegalPast}
-use Rattle.history_book.specs.Log.{Log, printed, kept}
+use Rattle.history_book.specs.Log.{Log, printed}
 use Rattle.history_book.specs.Jobs.{job_at}
-use Rattle.history_book.specs.declared.inner.Inner.TheVariants.{FileOut, TaskEnd}
-use Rattle.history_book.specs.declared.inner.Step.TheVariants.{PreCopy as PreCopyStep}
 use Rattle.merge_tasks.specs.Merging.{Sheet}
 use Rattle.merge_tasks.specs.declared.tasks.OpenMerge.{OpenMerge}
 use Rattle.merge_tasks.specs.TaskLog.{carried_out}
-use Rattle.merge_tasks.specs.Board.{Board, open_merge, spread_at, with_spread, sent_left, sent_less, post_after}
+use Rattle.merge_tasks.specs.Board.{Board, open_merge, spread_at, has_copy_task}
 use Rattle.cluster_nodes.specs.declared.held.HeldTicket.{HeldTicket}
 use Rattle.cluster_nodes.specs.declared.nodes.Node.{Node}
 use Rattle.cluster_nodes.specs.declared.nodes.Node.TheVariants.{Primary, Replica, Down}
 use Rattle.cluster_nodes.specs.declared.nodes.NodePlace.{NodePlace}
 use Rattle.cluster_nodes.specs.Places.{place_of, unwrapped}
 use Rattle.cluster_nodes.specs.JobChanges.{HasReplica}
-use Rattle.node_merges.specs.MergeChanges.{is_copy_of, MayTakeMerged, TakesMerged}
+use Rattle.node_merges.specs.MergeChanges.{is_copy_of, MayTakeMerged, TakesMerged, LosesMerged}
 use Rattle.node_merges.specs.MergePlaces.{IsReplicaIn, MovesReplica, RunsCopyOf}
 use Rattle.disk_model.specs.Faults.{Plans}
-use Rattle.cluster_state.specs.Run.{JobFiles, MergedCopy, Rest, Run, misses_file, misses_at}
+use Rattle.cluster_state.specs.Run.{JobFiles, MergedCopy, Run, misses_file, misses_at}
 use Rattle.cluster_state.specs.MergedCopies.{place_copies, copies_in}
 use Rattle.cluster_state.proofs.BookLaws.{primary_node}
 use Rattle.cluster_merges.specs.Running.{AllShown}
 use Rattle.cluster_merges.specs.MergePaths.{IsAsBefore}
-use Rattle.cluster_merges.proofs.TaskPaths.{as_before}
 use Rattle.cluster_merges.specs.declared.precopies.CopyTurn.{CopyTurn}
-use Rattle.cluster_merges.specs.declared.precopies.CopyTurn.TheVariants.{Waits, Hands, Ends}
-use Rattle.cluster_merges.specs.CopyTurns.{IsTurnWhere, StepsCopyTo, TurnsCopy}
+use Rattle.cluster_merges.specs.CopyTurns.{IsTurnWhere, EndsCopyOf}
+use Rattle.cluster_merges.specs.TaskMet.{behind}
+use Rattle.cluster_merges.proofs.TaskBehind.{primary_behind, carried_behind, all_behind}
+use Rattle.cluster_merges.proofs.CopyPaths.{lost_path}
 use Rattle.cluster_merges.proofs.MovedCopies.{copies_path, taken_moves}
 use Rattle.cluster_merges.proofs.CopyFacts.{at_replica, slot_here, whole_here, sent_here, copy_here, copy_drawn, carried_meta}
-
--- ---- the next step
-
-module _ (r : Run) (b0 b1 : Sheet) (board : Board) {ended cut : Bool} {calls : List ℕ} {sizes : List (Option ℕ)} {copies : List (List MergedCopy)} {jobs : List JobFiles} {plans : List Plans} (view : record { ended = ended; nodes = b0.nodes; log = b0.log; rest = record { calls_left = calls; cut = cut; sizes = sizes; jobs = jobs; copies = copies; tasks = board; plans = plans } } ≡ r)
-    (e1 : b1.log ≡ b0.log) (n1 : b1.nodes ≡ b0.nodes) (b2 : Sheet) (after : Board) (line : LineNo) (seg : SegNo) (taker : Option At) (n : NodeNo) (job : ℕ) (calls1 : List ℕ) (cut1 : Bool) (sizes1 : List (Option ℕ)) (copies1 : List (List MergedCopy)) (jobs1 : List JobFiles) (plans1 : List Plans) where
-  pub turns_so : (turn : CopyTurn) → StepsCopyTo line seg taker n job b1 b2 board after turn
-      → TurnsCopy line seg taker n job r (record { ended = false; nodes = b2.nodes; log = b2.log; rest = record { calls_left = calls1; cut = cut1; sizes = sizes1; jobs = jobs1; copies = copies1; tasks = after; plans = plans1 } }) turn
-  turns_so Waits is = (
-    as_before r b0 b2 board view (ap (λ (b : Sheet). b.log) is.0 ∙ e1) (ap (λ (b : Sheet). b.nodes) is.0 ∙ n1) after calls1 cut1 sizes1 (ap (λ (t : Board). t.rows) is.1) (ap (λ (t : Board). t.posted) is.1),
-    subst (λ (l : Log). IsSome (job_at n.0 l)) (e1 ∙ ap (λ (x : Run). x.log) view) is.2,
-  )
-  turns_so (Hands file) is = record {
-    hands = record {
-      is = record {
-        running = refl;
-        nodes = is.nodes ∙ (n1 ∙ ap (λ (x : Run). x.nodes) view);
-        log = is.log ∙ ap (λ (l : Log). kept (FileOut line n job file.name file.source None) ∷ l) (e1 ∙ ap (λ (x : Run). x.log) view);
-      };
-      rows_are = ap (λ (t : Board). t.rows) is.board_is ∙ ap (λ (x : Run). x.rest.tasks.rows) view;
-      posted_are = ap (λ (t : Board). t.posted) is.board_is ∙ ap (λ (x : Run). x.rest.tasks.posted) view;
-    };
-    out = is.out;
-    meta = is.meta;
-    footer = is.footer;
-  }
-  turns_so Ends is = record {
-    is = record {
-      running = refl;
-      nodes = is.nodes ∙ (n1 ∙ ap (λ (x : Run). x.nodes) view);
-      log = is.log ∙ ap (λ (l : Log). kept (TaskEnd line seg taker (PreCopyStep n job) true) ∷ l) (e1 ∙ ap (λ (x : Run). x.log) view);
-    };
-    rows_are = is.rows ∙ ap (λ (x : Run). with_spread seg.0 (sent_less n.0 job (spread_at (open_merge seg.0 x.rest.tasks.rows))) x.rest.tasks.rows) view;
-    posted_are = is.posted ∙ ap (λ (x : Run). x.rest.tasks.posted ++ post_after seg line (sent_left (sent_less n.0 job (spread_at (open_merge seg.0 x.rest.tasks.rows))))) view;
-  }
 
 -- ---- what callers see of the copies that run
 
@@ -199,3 +164,13 @@ module _ {D : Type 0} (cells : D → Cells) (b : Sheet) (board : Board) (places 
 
         at : copy_at number w.at.parts.copies.running ≡ Some t.copy
         at = at_replica (λ (q : ReplicaParts D). copy_at number q.copies.running ≡ Some t.copy) places n.0 t.parts w.at.parts t.held w.at.held t.there w.at.there t.runs
+
+    -- its disk failed: the copy has ended, and its task behind it
+    pub lost_all : (at : At) (olds news : List (ℕ × ℕ)) (b2 : Sheet) (after : Board) (line : LineNo) (by : Option At) (new : List (Option (NodePlace D))) → has_copy_task n.0 number (spread_at (open_merge seg.0 board.rows)) ≡ true → EndsCopyOf line seg by n number (behind at olds news b) b2 board after
+        → MovesReplica (LosesMerged cells (λ source. source part.name ≡ Some part.bytes) number) n.0 places new → AllShown cells b2 after new
+    lost_all at olds news b2 after line by new has ends w =
+        lost_path cells (behind at olds news b) b2 board places new behind_all source_runs.source source_runs.node_is (primary_behind at olds news b.log source_runs.source source_runs.is) line seg n number node by after has ends
+        (λ source. source part.name ≡ Some part.bytes) (behind_all.1.carried part.name part.bytes (carried_behind at olds news b.log part.name part.bytes out)) w (may_take.may w.at.parts w.at.held w.at.there).runs
+      where
+        behind_all : AllShown cells (behind at olds news b) board places
+        behind_all = all_behind at olds news cells b board places all

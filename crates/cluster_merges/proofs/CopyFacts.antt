@@ -1,5 +1,5 @@
 -- What is known of the copies that run where a merge is copied, and of what is next to do for one.
-use Rattle.std.proofs.Common.{◌≡◌, ◌≢◌, ◌<◌, ◌+◌, ◌==◌, ◌&&◌, if◌then◌else◌, ℕ, Bool, true, false, true≢false, List, [], ◌∷◌, map, Some, None, Option, Vec, Global, is_some, refl, ap, ◌∙◌, sym, subst, arith}
+use Rattle.std.proofs.Common.{◌≡◌, ◌≢◌, ◌≤◌, ◌<◌, ◌==◌, ◌&&◌, if◌then◌else◌, ℕ, Bool, true, false, true≢false, List, [], ◌∷◌, map, length, Some, None, Option, Vec, Global, is_some, refl, ap, ◌∙◌, sym, subst, arith}
 use Rattle.std.specs.Prelude.{IfSome, IsSome, IsSomeAnd, ⊤}
 use Rattle.std.proofs.lemmas.Bool.{eq-eqb}
 use Rattle.nrt_base.specs.declared.numbers.NodeNo.{NodeNo}
@@ -28,9 +28,10 @@ use Rattle.history_rules.specs.Points.{IsDrawnFile}
 use Rattle.history_tables.specs.declared.jobs.Job.{Job as LineJob}
 use Rattle.history_book.specs.Log.{Log, printed}
 use Rattle.history_book.specs.Jobs.{job_at}
-use Rattle.merge_tasks.specs.Merging.{Sheet}
+use Rattle.merge_tasks.specs.Merging.{Sheet, merge_on}
 use Rattle.merge_tasks.specs.declared.tasks.Spread.{Spread}
-use Rattle.merge_tasks.specs.Board.{Board, open_merge, spread_at, has_copy_task}
+use Rattle.merge_tasks.specs.Board.{Board, open_merge, spread_at, has_copy_task, TasksShow}
+use Rattle.merge_tasks.proofs.BoardRows.{some_open}
 use Rattle.cluster_nodes.specs.declared.held.HeldTicket.{HeldTicket}
 use Rattle.cluster_nodes.specs.declared.nodes.Node.{Node}
 use Rattle.cluster_nodes.specs.declared.nodes.Node.TheVariants.{Primary, Replica, Down}
@@ -52,6 +53,7 @@ use Rattle.cluster_state.proofs.Frames.{some_at, slot_of}
 use Rattle.cluster_state.proofs.FileFrames.{Both, both_of}
 use Rattle.cluster_state.proofs.FileJobs.{primary_here, point_goes}
 use Rattle.cluster_merges.specs.Running.{AllShown}
+use Rattle.cluster_merges.proofs.CutPaths.{merge_stays}
 use Rattle.cluster_merges.proofs.AtPrimary.{primary_in_place}
 use Rattle.cluster_merges.proofs.WrittenMerges.{IsWrittenMerge, meta_of_bytes, state_lasts, state_meta, state_drawn, state_footer, copy_is, rest_counted, written_merge, state_named}
 use Rattle.cluster_merges.proofs.EndedCopies.{IsCopyGone}
@@ -77,6 +79,14 @@ none_shown : (source : Name → Content) (log : Log) (n : ℕ) (o : Option LineJ
 none_shown source log n None j shows none = refl
 none_shown source log n (Some job) None shows none = absurd shows
 none_shown source log n (Some job) (Some j) shows none = absurd (true≢false (ap is_some (sym (point_goes j shows.runs) ∙ none)))
+
+-- the log has the merge of a copy in flight
+pub copy_on : (size : ℕ) (log : Log) (board : Board) (seg n job : ℕ) → TasksShow size log board → has_copy_task n job (spread_at (open_merge seg board.rows)) ≡ true → merge_on seg log ≢ None
+copy_on size log board seg n job tasks has = merge_stays size log board seg tasks (some_open board.rows seg (spread_some (spread_at (open_merge seg board.rows)) n job has))
+
+some_at_least : (o : Option Job) (P : Job → Type 0) → IsSomeAnd o P → IsSome o
+some_at_least None P none = absurd none
+some_at_least (Some c) P is = refl
 
 -- ---- whether a copy misses a file
 
@@ -221,6 +231,15 @@ module _ {D : Type 0} (cells : D → Cells) (b : Sheet) (board : Board) (places 
     slot = slot_here n node;
     replica = step_replica seg number Complete (place_of places n) not_complete is;
     may = λ r held there. let both = complete_runs seg (copy_at number r.copies.running) (step_here places n seg number Complete r held there is) in record { runs = both.0; complete = both.1 };
+  }
+
+  -- a copy that misses a file runs, and can be ended where nothing changed there
+  pub may_drop : (n seg number : ℕ) (q : Name) (meta : FileMetaData) (mid : List (Option (NodePlace D))) → IsNode b.nodes n → length mid ≡ length places → place_of mid n ≡ place_of places n → IsStepAt seg number (place_of places n) (Wants q meta)
+      → IsReplicaIn (λ r. IsSome (copy_at number r.copies.running)) n mid
+  may_drop n seg number q meta mid node count same is = record {
+    slot = let slot = slot_here n node in (slot.0, subst (λ (k : ℕ). n ≤ k) (sym count) slot.1);
+    replica = subst HasReplica (sym same) (step_replica seg number (Wants q meta) (place_of places n) (not_wants q meta) is);
+    may = λ r held there. some_at_least (copy_at number r.copies.running) (λ c. (is_copy_of seg c ≡ true) × IsNextToFetch c (Some (q, meta))) (step_here places n seg number (Wants q meta) r held (sym same ∙ there) is).0;
   }
 
   module _ (p : NodeNo) (node_p : IsNode b.nodes p.0) (primary : primary_of (printed b.log) ≡ Some p) where

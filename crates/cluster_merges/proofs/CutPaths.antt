@@ -27,7 +27,7 @@ use Rattle.merge_tasks.specs.declared.tasks.OpenMerge.{OpenMerge}
 use Rattle.merge_tasks.specs.declared.tasks.Posted.{Posted}
 use Rattle.merge_tasks.specs.declared.tasks.Sent.{Sent}
 use Rattle.merge_tasks.specs.declared.tasks.Spread.{Spread}
-use Rattle.merge_tasks.specs.Board.{Board, open_merge, spread_at, without_merge, is_none_left, is_copied, done_under, counts_one, TasksShow}
+use Rattle.merge_tasks.specs.Board.{Board, open_merge, spread_at, sent_left, without_merge, is_none_left, is_copied, done_under, counts_one, TasksShow}
 use Rattle.merge_tasks.proofs.BoardRows.{line_told, some_open}
 use Rattle.cluster_nodes.specs.declared.held.HeldTicket.{HeldTicket}
 use Rattle.cluster_nodes.specs.declared.nodes.Node.{Node}
@@ -36,10 +36,8 @@ use Rattle.cluster_nodes.specs.declared.nodes.NodePlace.{NodePlace}
 use Rattle.cluster_nodes.specs.Places.{place_of}
 use Rattle.cluster_nodes.specs.Outs.{one_like, states_like, jobs_like}
 use Rattle.cluster_nodes.proofs.OutCounts.{jobs_same, is_there, one_self, states_back}
-use Rattle.node_merges.specs.MergeChanges.{MayCut, CutsMerge}
+use Rattle.node_merges.specs.MergeChanges.{MayCut, CutsMerge, GivesUpMerge}
 use Rattle.node_merges.specs.MergePlaces.{IsPrimaryIn, MovesPrimary}
-use Rattle.disk_model.specs.Faults.{Plans}
-use Rattle.cluster_state.specs.Run.{JobFiles, MergedCopy, Run}
 use Rattle.cluster_state.specs.State.{FlightShows, NodeShows, PlaceShows, Shows}
 use Rattle.cluster_state.specs.Files.{FilesShow}
 use Rattle.cluster_state.specs.Merging.{AreWrittenAlike, AreMergedAlike, out_at, spreads_like, IsFitKind, PrimaryMerges, NodeMerges}
@@ -51,14 +49,14 @@ use Rattle.cluster_state.proofs.Drawn.{grows_none}
 use Rattle.cluster_state.proofs.Disks.{commits_alone}
 use Rattle.cluster_state.proofs.Naming.{FilesLast}
 use Rattle.cluster_state.proofs.MergingStill.{alike_more}
-use Rattle.cluster_merges.specs.MergePaths.{CutsOver}
 use Rattle.cluster_merges.specs.Running.{AllShown}
 use Rattle.cluster_merges.proofs.StandSteps.{spreads_without}
 use Rattle.cluster_merges.proofs.CopyRows.{IsSpreadRow, spread_row}
 use Rattle.cluster_merges.proofs.InsideSteps.{all_is}
 use Rattle.cluster_merges.proofs.FilesMore.{files_more}
 use Rattle.cluster_merges.proofs.AtPrimary.{primary_in_place}
-use Rattle.cluster_merges.proofs.CutStands.{merge_started, cut_place, cut_merges, tasks_cut, sent_without}
+use Rattle.cluster_merges.proofs.CutStands.{merge_started, cut_place, cut_merges, tasks_gone, sent_without}
+use Rattle.cluster_merges.proofs.GivenMerges.{given_all}
 use Rattle.cluster_merges.proofs.CutFiles.{cut_more, cut_holds, cut_low}
 
 -- ---- rows
@@ -82,7 +80,7 @@ some_spread None o is some none = absurd (true≢false (sym some ∙ ap is_some 
 some_spread (Some s) o is some none = none s refl
 
 -- the log has the merge of a row in flight
-merge_stays : (size : ℕ) (log : Log) (board : Board) (seg : ℕ) → TasksShow size log board → open_merge seg board.rows ≢ None → merge_on seg log ≢ None
+pub merge_stays : (size : ℕ) (log : Log) (board : Board) (seg : ℕ) → TasksShow size log board → open_merge seg board.rows ≢ None → merge_on seg log ≢ None
 merge_stays size log board seg tasks there none = there (gone (open_merge seg board.rows) (tasks.lines seg ∙ ap (λ (o : Option At). option_map (λ (at : At). at.line) o) none))
   where
     gone : (o : Option OpenMerge) → line_told o ≡ None → o ≡ None
@@ -108,24 +106,8 @@ out_by rows seg jobs states row s there some low =
 
 -- ---- the call
 
-module _ {D : Type 0} (cells : D → Cells) (r : Run) (old : List (Option (NodePlace D))) (b0 : Sheet) (board : Board) (p : NodeNo) (seg : SegNo) {ended cut : Bool} {calls : List ℕ} {sizes : List (Option ℕ)} {copies : List (List MergedCopy)} {jobs : List JobFiles} {plans : List Plans}
-    (view : record { ended = ended; nodes = b0.nodes; log = b0.log; rest = record { calls_left = calls; cut = cut; sizes = sizes; jobs = jobs; copies = copies; tasks = board; plans = plans } } ≡ r) (running : r.ended ≡ false) (all : ended ≡ false → AllShown cells b0 board old)
-    (node : IsNode r.nodes p.0) (primary : primary_of (printed r.log) ≡ Some p) (copied : is_copied (spread_at (open_merge seg.0 r.rest.tasks.rows)) ≡ true) (calm : publish_in_flight (printed r.log) ≡ None) where
-  was : AllShown cells b0 board old
-  was = all (ap (λ (x : Run). x.ended) view ∙ running)
-
-  node0 : IsNode b0.nodes p.0
-  node0 = subst (λ (k : ℕ). IsNode k p.0) (sym (ap (λ (x : Run). x.nodes) view)) node
-
-  primary0 : primary_of (printed b0.log) ≡ Some p
-  primary0 = ap (λ (x : Run). primary_of (printed x.log)) view ∙ primary
-
-  copied0 : is_copied (spread_at (open_merge seg.0 board.rows)) ≡ true
-  copied0 = ap (λ (x : Run). is_copied (spread_at (open_merge seg.0 x.rest.tasks.rows))) view ∙ copied
-
-  calm0 : publish_in_flight (printed b0.log) ≡ None
-  calm0 = ap (λ (x : Run). publish_in_flight (printed x.log)) view ∙ calm
-
+module _ {D : Type 0} (cells : D → Cells) (old : List (Option (NodePlace D))) (b0 : Sheet) (board : Board) (p : NodeNo) (seg : SegNo) (was : AllShown cells b0 board old) (node0 : IsNode b0.nodes p.0) (primary0 : primary_of (printed b0.log) ≡ Some p)
+    (copied0 : is_copied (spread_at (open_merge seg.0 board.rows)) ≡ true) (calm0 : publish_in_flight (printed b0.log) ≡ None) where
   here : is_at (primary_of (printed b0.log)) p.0 ≡ true
   here = ap (λ (o : Option NodeNo). is_at o p.0) primary0 ∙ eq-eqb p.0 p.0 refl
 
@@ -141,8 +123,8 @@ module _ {D : Type 0} (cells : D → Cells) (r : Run) (old : List (Option (NodeP
   has_spread answer is none = some_spread answer (spread_at (open_merge seg.0 board.rows)) is (copied_some (spread_at (open_merge seg.0 board.rows)) copied0) none
 
   -- the ledger has it in flight
-  pub is_on : (b1 : Sheet) → b1.log ≡ b0.log → merge_on seg.0 b1.log ≢ None
-  is_on b1 e1 none = merge_stays b0.nodes b0.log board seg.0 was.2.tasks has_row (ap (merge_on seg.0) (sym e1) ∙ none)
+  pub is_on : merge_on seg.0 b0.log ≢ None
+  is_on = merge_stays b0.nodes b0.log board seg.0 was.2.tasks has_row
 
   module _ (spread : Spread) (took : Some spread ≡ spread_at (open_merge seg.0 board.rows)) where
     found : (z : IsSpreadRow seg.0 board.rows) × (z.spread ≡ spread)
@@ -214,8 +196,8 @@ module _ {D : Type 0} (cells : D → Cells) (r : Run) (old : List (Option (NodeP
           (λ source held. cut_low cells seg spread.state q s cuts.step (printed b0.log) place.node_shows.whole (ap (λ (i : Infos). i.generation.0) cuts.step.cut.infos ∙ place.node_shows.writer.generation) source held)
           outs others cuts.moves node0 cuts.at.there was.0 was.1
 
-      module _ (b1 b2 b3 : Sheet) (after : Board) (line : LineNo) (taker : Option At) (e1 : b1.log ≡ b0.log) (n1 : b1.nodes ≡ b0.nodes) (e2 : b2.log ≡ kept (MergeEnd seg true) ∷ b1.log) (n2 : b2.nodes ≡ b1.nodes) (c2 : b2.cut ≡ true)
-          (e3 : b3.log ≡ kept (TaskEnd line seg taker CutStep true) ∷ b2.log) (n3 : b3.nodes ≡ b2.nodes) (c3 : b3.cut ≡ b2.cut) (rows : after.rows ≡ without_merge seg.0 board.rows) (posted : after.posted ≡ board.posted) where
+      module _ (b3 : Sheet) (after : Board) (line : LineNo) (taker : Option At) (e3 : b3.log ≡ kept (TaskEnd line seg taker CutStep true) ∷ kept (MergeEnd seg true) ∷ b0.log) (n3 : b3.nodes ≡ b0.nodes) (c3 : b3.cut ≡ true)
+          (rows : after.rows ≡ without_merge seg.0 board.rows) (posted : after.posted ≡ board.posted) where
         abbrev over : Log
         over = kept (MergeEnd seg true) ∷ b0.log
 
@@ -249,7 +231,7 @@ module _ {D : Type 0} (cells : D → Cells) (r : Run) (old : List (Option (NodeP
         beside : (k : ℕ) (x : Node D) → is_at (primary_of (printed b0.log)) k ≡ false → NodeShows cells b0.log k x → NodeMerges b0.log b0.cut (λ o. jobs_like old o b0.nodes) board.rows k x
             → NodeMerges now true (λ o. jobs_like new o b0.nodes) (without_merge seg.0 board.rows) k x
         beside k (Primary x) away showing stand = absurd (true≢false (sym showing.primary ∙ away))
-        beside k (Replica x) away showing stand = sent_without board.rows seg.0 spread k x.copies.running (sym took) ended_all stand
+        beside k (Replica x) away showing stand = sent_without board.rows seg.0 k x.copies.running (ap sent_left (sym took) ∙ ended_all) stand
         beside k (Down x) away showing stand = tt
 
         -- each node has to do with the other rows alone
@@ -263,11 +245,11 @@ module _ {D : Type 0} (cells : D → Cells) (r : Run) (old : List (Option (NodeP
 
         -- THE CLUSTER again
         pub cut_all : ((x : At) → done_under x after.counts ≡ done_under x board.counts + counts_one x taker) → AllShown cells b3 after new
-        cut_all counts = all_is cells sheet b3 after new (e3 ∙ ap (λ (l : Log). kept (TaskEnd line seg taker CutStep true) ∷ l) (e2 ∙ ap (λ (l : Log). kept (MergeEnd seg true) ∷ l) e1)) (n3 ∙ (n2 ∙ n1)) (c3 ∙ c2) (
+        cut_all counts = all_is cells sheet b3 after new e3 n3 c3 (
           now_shows,
           now_files,
           record {
-            tasks = tasks_cut b0.nodes b0.log board after line seg taker found.0.row found.0.there rows posted counts was.2.tasks;
+            tasks = tasks_gone b0.nodes b0.log board after line seg taker CutStep true found.0.row found.0.there rows posted counts was.2.tasks;
             fit = subst (λ (l : List Posted). All (λ t. IsFitKind t.kind) l) (sym posted) was.2.fit;
             each = each_now;
             vacant = λ none. absurd (reigns none);
@@ -280,17 +262,15 @@ module _ {D : Type 0} (cells : D → Cells) (r : Run) (old : List (Option (NodeP
             reigns : primary_of (printed b0.log) ≡ None → ⊥
             reigns none = let clash : Some p ≡ None = sym primary0 ∙ none in absurd (cc)
 
-        -- and what the call answers
-        pub cuts_over : {calls1 : List ℕ} {sizes1 : List (Option ℕ)} {copies1 : List (List MergedCopy)} {jobs1 : List JobFiles} {plans1 : List Plans} → CutsOver line seg taker r (record { ended = false; nodes = b3.nodes; log = b3.log; rest = record { calls_left = calls1; cut = b3.cut; sizes = sizes1; jobs = jobs1; copies = copies1; tasks = after; plans = plans1 } })
-        cuts_over = record {
-          cuts = record {
-            is = record {
-              running = refl;
-              nodes = n3 ∙ (n2 ∙ (n1 ∙ ap (λ (x : Run). x.nodes) view));
-              log = e3 ∙ ap (λ (l : Log). kept (TaskEnd line seg taker CutStep true) ∷ l) (e2 ∙ ap (λ (l : Log). kept (MergeEnd seg true) ∷ l) (e1 ∙ ap (λ (x : Run). x.log) view));
-            };
-            rows_are = rows ∙ ap (λ (x : Run). without_merge seg.0 x.rest.tasks.rows) view;
-            posted_are = posted ∙ ap (λ (x : Run). x.rest.tasks.posted) view;
-          };
-          cut = c3 ∙ c2;
-        }
+    -- it was given up
+    pub cut_given : (lasting : FilesLast) (new : List (Option (NodePlace D))) → MovesPrimary (GivesUpMerge cells seg (states_without (out_of spread.state))) p.0 old new → (b3 : Sheet) (after : Board) (line : LineNo) (taker : Option At)
+        → b3.log ≡ kept (TaskEnd line seg taker CutStep true) ∷ kept (MergeEnd seg false) ∷ b0.log → b3.nodes ≡ b0.nodes → b3.cut ≡ b0.cut → after.rows ≡ without_merge seg.0 board.rows → after.posted ≡ board.posted
+        → ((x : At) → done_under x after.counts ≡ done_under x board.counts + counts_one x taker) → AllShown cells b3 after new
+    cut_given lasting new moves b3 after line taker e3 n3 c3 rows posted counts =
+        given_all cells old new b0 b3 board after p line seg taker CutStep was node0 primary0 found.0.row found.0.there (ap sent_left some ∙ ended_all) (states_without (out_of spread.state)) moves leaves lasting e3 n3 c3 rows posted counts
+      where
+        leaves : (o : Out) → states_like o moves.at.parts.states ≤ one_like o (out_at found.0.row.spread) + states_like o (states_without (out_of spread.state) moves.at.parts.states)
+        leaves o =
+            let one : one_like o (out_at found.0.row.spread) ≡ one_like o (Some (out_of spread.state)) = ap (λ (x : Option Spread). one_like o (out_at x)) some in
+            let back = states_back o (out_of spread.state) moves.at.parts.states (out_there moves.at.parts moves.at.held moves.at.there) in
+            omega (arith, one, back)

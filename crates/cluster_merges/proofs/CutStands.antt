@@ -24,7 +24,7 @@ use Rattle.history_rules.specs.Lines.{publish_in_flight}
 use Rattle.history_rules.specs.Tasks.{merge_count}
 use Rattle.history_book.specs.Log.{Log, printed, kept}
 use Rattle.history_book.specs.declared.inner.Inner.TheVariants.{MergeEnd, TaskEnd}
-use Rattle.history_book.specs.declared.inner.Step.TheVariants.{Cut as CutStep}
+use Rattle.history_book.specs.declared.inner.Step.{Step}
 use Rattle.index_primary.specs.declared.parts.PrimaryParts.{PrimaryParts}
 use Rattle.index_primary.specs.declared.states.Merging.{Merging}
 use Rattle.index_primary.specs.declared.states.Out.{Out}
@@ -36,7 +36,7 @@ use Rattle.merge_tasks.specs.declared.tasks.Posted.{Posted}
 use Rattle.merge_tasks.specs.declared.tasks.Sent.{Sent}
 use Rattle.merge_tasks.specs.declared.tasks.Spread.{Spread}
 use Rattle.merge_tasks.specs.TaskLog.{ended_count}
-use Rattle.merge_tasks.specs.Board.{Board, open_merge, spread_at, without_merge, is_sent_in, done_under, counts_one, due_all, IsToldTask, TasksShow}
+use Rattle.merge_tasks.specs.Board.{Board, open_merge, spread_at, sent_left, without_merge, is_sent_in, done_under, counts_one, due_all, IsToldTask, TasksShow}
 use Rattle.merge_tasks.proofs.BoardRows.{open_without, due_closed}
 use Rattle.merge_tasks.proofs.TaskFrames.{told_all, ends_most, tasks_closed}
 use Rattle.cluster_nodes.specs.declared.held.HeldTicket.{HeldTicket}
@@ -146,42 +146,40 @@ cut_merges log was now jobs count rows seg row s p q m there some found apart ou
 
 -- ---- tasks
 
--- the merge has ended and, behind it, the task to cut it over, which counts: there is one merge less for which tasks may come
-pub tasks_cut : (size : ℕ) (log : Log) (b new : Board) (line : LineNo) (seg : SegNo) (taker : Option At) (row : OpenMerge) → open_merge seg.0 b.rows ≡ Some row → new.rows ≡ without_merge seg.0 b.rows → new.posted ≡ b.posted
-    → ((x : At) → done_under x new.counts ≡ done_under x b.counts + counts_one x taker) → TasksShow size log b → TasksShow size (kept (TaskEnd line seg taker CutStep true) ∷ kept (MergeEnd seg true) ∷ log) new
-tasks_cut size log b new line seg taker row there rows posted done s =
+-- the merge has ended and, behind it, a task of it, which counts: there is one merge less for which tasks may come
+pub tasks_gone : (size : ℕ) (log : Log) (b new : Board) (line : LineNo) (seg : SegNo) (taker : Option At) (step : Step) (cut : Bool) (row : OpenMerge) → open_merge seg.0 b.rows ≡ Some row → new.rows ≡ without_merge seg.0 b.rows → new.posted ≡ b.posted
+    → ((x : At) → done_under x new.counts ≡ done_under x b.counts + counts_one x taker) → TasksShow size log b → TasksShow size (kept (TaskEnd line seg taker step true) ∷ kept (MergeEnd seg cut) ∷ log) new
+tasks_gone size log b new line seg taker step cut row there rows posted done s =
     let less = due_closed size b.rows seg.0 row there in
     let due : due_all size new.rows ≡ due_all size (without_merge seg.0 b.rows) = ap (due_all size) rows in
-    let closed : TasksShow size (kept (MergeEnd seg true) ∷ log) (record { posted = b.posted; rows = new.rows; counts = b.counts }) =
-    tasks_closed size log b (record { posted = b.posted; rows = new.rows; counts = b.counts }) seg true rows refl refl (omega (arith, less, due)) s in
+    let closed : TasksShow size (kept (MergeEnd seg cut) ∷ log) (record { posted = b.posted; rows = new.rows; counts = b.counts }) =
+    tasks_closed size log b (record { posted = b.posted; rows = new.rows; counts = b.counts }) seg cut rows refl refl (omega (arith, less, due)) s in
     record {
       lines = closed.lines;
       posted = subst (λ (l : List Posted). All (IsToldTask now) l) (sym posted) (told_all log now (λ n inputs is. is) b.posted s.posted);
       noted = s.noted;
       low = s.low;
       paid = let paid = s.paid in omega (arith, paid, less, due);
-      drains = λ lines none. let low = s.drains lines none in let most = ends_most lines line seg taker CutStep true in omega (arith, low, most);
-      counts = λ at none. (let was = s.counts at none in let more = done at in let one = counts_ends at line seg taker CutStep in omega (arith, was, more, one));
+      drains = λ lines none. let low = s.drains lines none in let most = ends_most lines line seg taker step true in omega (arith, low, most);
+      counts = λ at none. (let was = s.counts at none in let more = done at in let one = counts_ends at line seg taker step in omega (arith, was, more, one));
     }
   where
     now : Log
-    now = kept (TaskEnd line seg taker CutStep true) ∷ kept (MergeEnd seg true) ∷ log
+    now = kept (TaskEnd line seg taker step true) ∷ kept (MergeEnd seg cut) ∷ log
 
 -- ---- copies
 
 -- copies that run were sent by other merges, where all of this one have ended
-pub sent_without : (rows : List OpenMerge) (seg : ℕ) (s : Spread) (n : ℕ) (running : List Job) → spread_at (open_merge seg rows) ≡ Some s → s.left ≡ [] → AreSentCopies rows n running → AreSentCopies (without_merge seg rows) n running
-sent_without rows seg s n running there ended sent = sent_still rows (without_merge seg rows) n running keeps sent
+pub sent_without : (rows : List OpenMerge) (seg n : ℕ) (running : List Job) → sent_left (spread_at (open_merge seg rows)) ≡ [] → AreSentCopies rows n running → AreSentCopies (without_merge seg rows) n running
+sent_without rows seg n running ended sent = sent_still rows (without_merge seg rows) n running keeps sent
   where
-    none_sent : (u : Spread) (k : ℕ) → Some s ≡ Some u → is_sent_in n k u.left ≡ true → ⊥
-    none_sent u k both sent_one =
-        let one : s ≡ u = cc in
-        true≢false (sym sent_one ∙ (ap (λ (x : Spread). is_sent_in n k x.left) (sym one) ∙ ap (λ (l : List Sent). is_sent_in n k l) ended))
+    none_sent : (t : Spread) (k : ℕ) → spread_at (open_merge seg rows) ≡ Some t → is_sent_in n k t.left ≡ true → ⊥
+    none_sent t k here sent_one = true≢false (sym sent_one ∙ ap (λ (l : List Sent). is_sent_in n k l) (ap sent_left (sym here) ∙ ended))
 
     keeps : (other k : ℕ) (t : Spread) → spread_at (open_merge other rows) ≡ Some t → is_sent_in n k t.left ≡ true → IsSomeAnd (spread_at (open_merge other (without_merge seg rows))) (λ u. (is_sent_in n k u.left ≡ true) × (u.state ≡ t.state))
     keeps other k t here is =
         subst (λ (o : Option OpenMerge). IsSomeAnd (spread_at o) (λ u. (is_sent_in n k u.left ≡ true) × (u.state ≡ t.state))) (sym (open_without rows seg other))
         (by_test (seg == other) (λ b. (seg == other) ≡ b → IsSomeAnd (spread_at (if b then None else open_merge other rows)) (λ u. (is_sent_in n k u.left ≡ true) × (u.state ≡ t.state)))
-        (λ same e. absurd (none_sent t k (sym there ∙ (ap (λ (j : ℕ). spread_at (open_merge j rows)) (eqb-true seg other e) ∙ here)) is))
+        (λ same e. absurd (none_sent t k (ap (λ (j : ℕ). spread_at (open_merge j rows)) (eqb-true seg other e) ∙ here) is))
         (λ apart e. subst (λ (o : Option Spread). IsSomeAnd o (λ u. (is_sent_in n k u.left ≡ true) × (u.state ≡ t.state))) (sym here) (is, refl))
         refl)

@@ -11,6 +11,7 @@ mod CutPaths
 mod CutStands
 mod EndedCopies
 pub mod FilesMore
+mod GivenMerges
 pub mod InsideSteps
 mod MaySending
 mod MovedCopies
@@ -21,6 +22,7 @@ mod SendLoop
 mod SendSteps
 pub mod StandSteps
 pub mod StartPaths
+mod TaskBehind
 pub mod TaskPaths
 mod Turning
 mod WrittenMerges

@@ -1,6 +1,6 @@
 -- A replica whose copies of merged segments have moved: what is shown of nodes, of files and of merges is shown still.
-use Rattle.std.proofs.Common.{◌≡◌, ◌<◌, ◌^◌, inl, inr, ℕ, List, Some, None, Option, Vec, Global, refl, ap, ◌∙◌, sym, subst, arith}
-use Rattle.std.specs.Prelude.{IfSome, IsSomeAnd}
+use Rattle.std.proofs.Common.{◌≡◌, ◌<◌, ◌^◌, inl, inr, ℕ, true≢false, List, Some, None, Option, Vec, Global, is_some, refl, ap, ◌∙◌, sym, subst, arith}
+use Rattle.std.specs.Prelude.{IfSome, IsSomeAnd, ⊤}
 use Rattle.std.specs.List.{Contains}
 use Rattle.disk_model.specs.Disk.{Name, Content, Cells}
 use Rattle.file_deleter.specs.Holdings.{times}
@@ -36,7 +36,7 @@ use Rattle.cluster_nodes.specs.Places.{place_of}
 use Rattle.cluster_nodes.specs.Outs.{want_of, jobs_like}
 use Rattle.cluster_nodes.specs.JobPlaces.{MovesOne}
 use Rattle.cluster_nodes.proofs.OutCounts.{jobs_same}
-use Rattle.node_merges.specs.MergeChanges.{TakesMerged, SettlesMerged}
+use Rattle.node_merges.specs.MergeChanges.{IsNameOfCopy, TakesMerged, SettlesMerged, LosesMerged, DropsMerged}
 use Rattle.replica_node.specs.Settling.{SettlesCopy}
 use Rattle.cluster_state.specs.State.{IsPointAt, HoldsTickets, PlaceShows, Shows}
 use Rattle.cluster_state.specs.Files.{JobShows, ReplicaFiles, NodeFiles, FilesShow}
@@ -197,3 +197,47 @@ module _ {D : Type 0} (cells : D → Cells) where
       went_on : (o : Option Job) → copy_at number s.copies.running ≡ o → IsSomeAnd o (λ d. (d.want ≡ c.want) × (s.copies.running ≡ copies_with number d r.copies.running)) → RunsNoOther r.copies.running s.copies.running
       went_on None none is = absurd is
       went_on (Some d) now is = subst (λ (l : List Job). RunsNoOther r.copies.running l) (sym is.1) (with_runs r.copies.running number c d at (number_at number s.copies.running d now) is.0)
+
+  -- the disk failed, and a copy has ended
+  pub lost_moves : (source : Name → Content) (past : Past) (number : ℕ) (c : Job) (Reads : (Name → Content) → Type 0) (r s : ReplicaParts D) → copy_at number r.copies.running ≡ Some c → IsWholeReplica cells r → ((q : Name) → 0 < times (meta_names c.want.files) q → IsDrawnFile past q)
+      → Reads source → LosesMerged cells Reads number r s → MovesCopies source past r s
+  lost_moves source past number c Reads r s at whole drawn reads w = record {
+    searchers = ap (λ (z : ReplicaParts D). z.searchers) w.others;
+    infos = ap (λ (z : ReplicaParts D). z.infos) w.others;
+    job = ap (λ (z : ReplicaParts D). z.job) w.others;
+    commits = ap (λ (z : ReplicaParts D). z.commits) w.others;
+    seen = ap (λ (z : ReplicaParts D). z.seen.0) w.others;
+    whole = w.whole;
+    standing = w.standing;
+    sourced = w.sourced source reads;
+    appears = record { each = λ q none some. named q (appears.each q none some) };
+    runs = subst (λ (l : List Job). RunsNoOther r.copies.running l) (sym (ap (λ (m : MergeCopies). m.running) w.copies)) (without_runs r.copies.running number whole.merges.apart);
+  }
+    where
+      appears : AppearsOnly (IsNameOfCopy number c) (cells r.dir) (cells s.dir)
+      appears = subst (λ (o : Option Job). IfSome o (λ j. AppearsOnly (IsNameOfCopy number j) (cells r.dir) (cells s.dir))) at w.appears
+
+      here : IsMergeCopy (cells r.dir) r.files r.jobs c
+      here = all_at (IsMergeCopy (cells r.dir) r.files r.jobs) number r.copies.running c at whole.merges.each
+
+      small : number < 2 ^ 64
+      small = let given = here.given in let few = whole.few in let is = number_at number r.copies.running c at in omega (arith, given, few, is)
+
+      named : (q : Name) → IsNameOfCopy number c q → MayHaveName past q
+      named q (inl wanted) = inr (inr (inl (drawn q wanted)))
+      named q (inr (x, lacks, is)) = let all = here.copy.each x in temporary_drawn past x q number (drawn x (omega (arith, all, lacks))) small is
+
+  -- a copy that was ended is lost so
+  pub drop_loses : (number : ℕ) (r s : ReplicaParts D) → DropsMerged cells number r s → LosesMerged cells (λ source. ⊤) number r s
+  drop_loses number r s w = record {
+    others = w.others ∙ ap (λ (z : ReplicaParts D). record r { dir = s.dir; files = s.files; copies = s.copies; known = z.known }) (sym w.others);
+    copies = w.copies;
+    whole = w.whole;
+    standing = w.standing;
+    sourced = λ source reads is. w.sourced source is;
+    appears = by (copy_at number r.copies.running);
+  }
+    where
+      by : (o : Option Job) → IfSome o (λ c. AppearsOnly (IsNameOfCopy number c) (cells r.dir) (cells s.dir))
+      by None = tt
+      by (Some c) = record { each = λ q none some. absurd (true≢false (sym some ∙ ap is_some (w.appears.each q none))) }

@@ -1,6 +1,6 @@
 -- A merge that is written and sent, in the terms of the call.
-use Rattle.std.proofs.Common.{◌≡◌, ◌≢◌, ◌≤◌, ◌<◌, ◌+◌, ◌==◌, ◌^◌, ◌++◌, ◌∷◌, [], ℕ, Bool, true, false, true≢false, List, map, length, get_or, Some, None, Option, Vec, Global, refl, ap, ◌∙◌, sym, subst, arith, if◌then◌else◌}
-use Rattle.std.specs.Prelude.{not, is_some, IsSome, IsSomeAnd, IfSome, Result, Ok, Err, OnErr}
+use Rattle.std.proofs.Common.{◌≡◌, ◌≢◌, ◌≤◌, ◌<◌, ◌+◌, ◌==◌, ◌^◌, ◌++◌, ◌∷◌, [], ℕ, Bool, true, false, true≢false, List, length, get_or, Some, None, Option, Vec, Global, refl, ap, ◌∙◌, sym, subst, arith, if◌then◌else◌}
+use Rattle.std.specs.Prelude.{not, is_some, IsSome, IsSomeAnd, IfSome}
 use Rattle.std.specs.List.{AllByRecursion}
 use Rattle.std.proofs.lemmas.Bool.{eq-eqb}
 use Rattle.std.proofs.lemmas.List.{length-map}
@@ -32,16 +32,16 @@ use Rattle.replica_node.specs.Sources.{HeldReadAs}
 use Rattle.history_rules.specs.Nodes.{IsNode, IsReplica, is_at, primary_of, generation_of}
 use Rattle.history_book.specs.Log.{Log, printed, kept}
 use Rattle.history_book.specs.Jobs.{job_at}
-use Rattle.history_book.specs.declared.inner.Inner.TheVariants.{TaskEnd}
+use Rattle.history_book.specs.declared.inner.Inner.TheVariants.{TaskEnd, MergeEnd}
 use Rattle.history_book.specs.declared.inner.Step.TheVariants.{Merge as MergeStep}
-use Rattle.merge_tasks.specs.Merging.{Sheet}
+use Rattle.merge_tasks.specs.Merging.{Sheet, merge_on}
 use Rattle.merge_tasks.specs.declared.drains.DrainCount.{DrainCount}
 use Rattle.merge_tasks.specs.declared.tasks.OpenMerge.{OpenMerge}
 use Rattle.merge_tasks.specs.declared.tasks.Posted.{Posted}
 use Rattle.merge_tasks.specs.declared.tasks.Sent.{Sent}
 use Rattle.merge_tasks.specs.declared.tasks.Spread.{Spread}
 use Rattle.merge_tasks.specs.TaskLog.{inputs_out, merge_task}
-use Rattle.merge_tasks.specs.Board.{Board, open_merge, spread_at, with_spread, is_unwritten, all_sent, sent_left, posts_of, post_after, done_under, counts_one}
+use Rattle.merge_tasks.specs.Board.{Board, open_merge, spread_at, with_spread, without_merge, is_unwritten, all_sent, sent_left, posts_of, post_after, done_under, counts_one}
 use Rattle.merge_tasks.proofs.BoardRows.{open_with, with_last}
 use Rattle.cluster_nodes.specs.declared.held.HeldTicket.{HeldTicket}
 use Rattle.cluster_nodes.specs.declared.nodes.Node.{Node}
@@ -50,10 +50,8 @@ use Rattle.cluster_nodes.specs.declared.nodes.NodePlace.{NodePlace}
 use Rattle.cluster_nodes.specs.Places.{place_of}
 use Rattle.cluster_nodes.specs.JobChanges.{HasReplica}
 use Rattle.cluster_nodes.specs.Outs.{states_like, jobs_like}
-use Rattle.node_merges.specs.MergeChanges.{ReadiesMerge, MaySend}
+use Rattle.node_merges.specs.MergeChanges.{ReadiesMerge, GivesUpMerge, MaySend}
 use Rattle.node_merges.specs.MergePlaces.{IsPrimaryIn, IsReplicaIn, MovesPrimary}
-use Rattle.disk_model.specs.Faults.{Plans}
-use Rattle.cluster_state.specs.Run.{JobFiles, MergedCopy, Rest, Run, IsEnded}
 use Rattle.cluster_state.specs.Settles.{AreReplicas}
 use Rattle.cluster_state.specs.State.{NodeShows, PrimaryShows, ReplicaShows, PlaceShows}
 use Rattle.cluster_state.specs.Files.{PrimaryFiles, ReplicaFiles, NodeFiles}
@@ -61,10 +59,15 @@ use Rattle.cluster_state.specs.Merging.{AreWrittenAlike, AreMergedAlike, AreSent
 use Rattle.cluster_state.proofs.Frames.{some_at, slot_of}
 use Rattle.cluster_state.proofs.FileFrames.{other_place}
 use Rattle.cluster_state.proofs.Naming.{FilesLast, HoldsFrom, HoldsLow, holds_same}
-use Rattle.cluster_merges.specs.MergePaths.{IsMergedOut, WritesMerge, begun_log}
+use Rattle.cluster_state.specs.Met.{with_met}
+use Rattle.cluster_merges.specs.MergePaths.{IsMergedOut, begun_log}
+use Rattle.cluster_merges.specs.TaskMet.{behind, WritesBehind}
 use Rattle.cluster_merges.specs.Running.{AllShown}
 use Rattle.cluster_merges.proofs.AtPrimary.{primary_in_place}
 use Rattle.cluster_merges.proofs.CopyRows.{post_path}
+use Rattle.cluster_merges.proofs.CutPaths.{merge_stays}
+use Rattle.cluster_merges.proofs.GivenMerges.{given_all}
+use Rattle.cluster_merges.proofs.TaskBehind.{all_behind}
 use Rattle.cluster_merges.proofs.FilesMore.{files_more}
 use Rattle.cluster_merges.proofs.StandSteps.{merge_numbered}
 use Rattle.cluster_merges.specs.Sending.{spread_to, MaySendAll, SendsAll}
@@ -74,14 +77,6 @@ use Rattle.cluster_merges.proofs.ReplicaCount.{few_replicas}
 use Rattle.cluster_merges.proofs.SendLoop.{spread_with, is_spread}
 use Rattle.cluster_merges.proofs.SendSteps.{begun_all}
 use Rattle.cluster_merges.proofs.WrittenStand.{stand_written}
-
--- ---- a call that found no memory
-
--- before an entry was kept the history is as it was
-pub ended_before : {T E : Type 0} (result : Result T E) (r : Run) (b b1 : Sheet) (left : Rest) {was : Bool} {rest : Rest} → record { ended = was; nodes = b.nodes; log = b.log; rest = rest } ≡ r → b1.log ≡ b.log → b1.nodes ≡ b.nodes
-    → OnErr result (IsEnded r (record { ended = true; nodes = b1.nodes; log = b1.log; rest = left }))
-ended_before (Ok x) r b b1 left view log nodes = tt
-ended_before (Err e) r b b1 left view log nodes = record { ended = refl; nodes = nodes ∙ ap (λ (x : Run). x.nodes) view; log = log ∙ ap (λ (x : Run). x.log) view }
 
 -- ---- a merge of which nothing is written
 
@@ -101,21 +96,8 @@ unwritten_row seg rows is = by (open_merge seg rows) refl is
     by None e is = absurd (true≢false (sym is))
     by (Some r) e is = of_row r e r.spread refl is
 
-module _ {D : Type 0} (cells : D → Cells) (r : Run) (b : Sheet) (board : Board) (old : List (Option (NodePlace D))) (p : NodeNo) (seg : SegNo) (merged : Merged) {was cut : Bool} {calls : List ℕ} {sizes : List (Option ℕ)} {copies : List (List MergedCopy)} {jobs : List JobFiles} {plans : List Plans}
-    (view : record { ended = was; nodes = b.nodes; log = b.log; rest = record { calls_left = calls; cut = cut; sizes = sizes; jobs = jobs; copies = copies; tasks = board; plans = plans } } ≡ r) (running : r.ended ≡ false) (invariant : was ≡ false → AllShown cells b board old)
-    (asked_node : IsNode r.nodes p.0) (asked_primary : primary_of (printed r.log) ≡ Some p) (asked_row : is_unwritten (open_merge seg.0 r.rest.tasks.rows) ≡ true) (asked_merged : IsMergedOut r.log seg merged) where
-  all : AllShown cells b board old
-  all = invariant (ap (λ (x : Run). x.ended) view ∙ running)
-
-  node : IsNode b.nodes p.0
-  node = subst (λ (x : Run). IsNode x.nodes p.0) (sym view) asked_node
-
-  primary : primary_of (printed b.log) ≡ Some p
-  primary = ap (λ (x : Run). primary_of (printed x.log)) view ∙ asked_primary
-
-  out : IsMergedOut b.log seg merged
-  out = subst (λ (x : Run). IsMergedOut x.log seg merged) (sym view) asked_merged
-
+module _ {D : Type 0} (cells : D → Cells) (b : Sheet) (board : Board) (old : List (Option (NodePlace D))) (p : NodeNo) (seg : SegNo) (merged : Merged) (all : AllShown cells b board old) (node : IsNode b.nodes p.0) (primary : primary_of (printed b.log) ≡ Some p)
+    (asked_row : is_unwritten (open_merge seg.0 board.rows) ≡ true) (out : IsMergedOut b.log seg merged) where
   here : is_at (primary_of (printed b.log)) p.0 ≡ true
   here = ap (λ (o : Option NodeNo). is_at o p.0) primary ∙ eq-eqb p.0 p.0 refl
 
@@ -123,10 +105,14 @@ module _ {D : Type 0} (cells : D → Cells) (r : Run) (b : Sheet) (board : Board
   away m apart = ap (λ (o : Option NodeNo). is_at o m) primary ∙ apart
 
   row : IsUnwrittenRow seg.0 board.rows
-  row = unwritten_row seg.0 board.rows (ap (λ (x : Run). is_unwritten (open_merge seg.0 x.rest.tasks.rows)) view ∙ asked_row)
+  row = unwritten_row seg.0 board.rows asked_row
 
   pub open_there : open_merge seg.0 board.rows ≢ None
   open_there none = none-some row.row (sym none ∙ row.there)
+
+  -- the log has it in flight
+  pub is_on : merge_on seg.0 b.log ≢ None
+  is_on = merge_stays b.nodes b.log board seg.0 all.2.tasks open_there
 
   number : merged.files.seg ≡ seg
   number = out.of.number
@@ -164,6 +150,14 @@ module _ {D : Type 0} (cells : D → Cells) (r : Run) (b : Sheet) (board : Board
     primary = primary_in_place cells b.log b.nodes p.0 old here node all.0;
     may = λ q held there. made_at q (merges_at q held there).merges;
   }
+
+  -- the disk failed, and it gave the merge up
+  pub ready_given : FilesLast → (new : List (Option (NodePlace D))) → MovesPrimary (GivesUpMerge cells merged.files.seg (λ states. states)) p.0 old new → (b3 : Sheet) (after : Board) (line : LineNo) (taker : Option At)
+      → b3.log ≡ kept (TaskEnd line seg taker MergeStep true) ∷ kept (MergeEnd seg false) ∷ b.log → b3.nodes ≡ b.nodes → b3.cut ≡ b.cut → after.rows ≡ without_merge seg.0 board.rows → after.posted ≡ board.posted
+      → ((x : At) → done_under x after.counts ≡ done_under x board.counts + counts_one x taker) → AllShown cells b3 after new
+  ready_given lasting new moves b3 after line taker e3 n3 c3 rows posted counts =
+      let given : MovesPrimary (GivesUpMerge cells seg (λ states. states)) p.0 old new = subst (λ (s : SegNo). MovesPrimary (GivesUpMerge cells s (λ states. states)) p.0 old new) number moves in
+      given_all cells old new b b3 board after p line seg taker MergeStep all node primary row.row row.there (ap sent_left row.none) (λ states. states) given (λ o. omega arith) lasting e3 n3 c3 rows posted counts
 
   -- ---- a replica
 
@@ -240,10 +234,7 @@ module _ {D : Type 0} (cells : D → Cells) (r : Run) (b : Sheet) (board : Board
         sent : AreSentCopies board.rows n r.copies.running
         sent = some_at (λ z. NodeMerges b.log b.cut (λ o. jobs_like old o b.nodes) board.rows n z.node) (place_of old n) (record { node = Replica r; held = held }) there (all.2.each n at)
 
-    module _ (copy : CopyState) (copied : copy ≡ state) (size : ℕ) (told : Log) (size_is : size ≡ b.nodes) (told_is : told ≡ b.log) (listed nodes : List NodeNo) (nodes_are : nodes ≡ listed) (replicas : AreReplicas size (printed told) listed) where
-      are : AreReplicas b.nodes (printed b.log) nodes
-      are = subst (λ (ns : List NodeNo). AreReplicas b.nodes (printed b.log) ns) (sym nodes_are) (subst (λ (x : ℕ × Log). AreReplicas x.0 (printed x.1) listed) (λ i. (size_is i, told_is i)) replicas)
-
+    module _ (copy : CopyState) (copied : copy ≡ state) (nodes : List NodeNo) (are : AreReplicas b.nodes (printed b.log) nodes) where
       pub is_copy : IsCopyState copy
       is_copy = subst (λ (c : CopyState). IsCopyState c) (sym copied) moved.step.copy
 
@@ -294,10 +285,14 @@ module _ {D : Type 0} (cells : D → Cells) (r : Run) (b : Sheet) (board : Board
           pub has_spread : IsSome (spread_at (open_merge seg.0 last.rows))
           has_spread = is_spread (spread_at (open_merge seg.0 last.rows)) (spread_to copy sent) sent_at
 
+          -- as many places as nodes
+          pub sent_count : FilesLast → length places ≡ b.nodes
+          sent_count lasting = (sends.shown b (ap (λ (c : CopyState). c.primary_gen.0) copied ∙ generation) (λ k d within. (are.each k d within).0) (written_all lasting)).0.count
+
           pub as_many : length sent ≡ length nodes
           as_many = sym (length-map sent (λ (x : Sent). x.node)) ∙ ap length sends.to
 
-          module _ (line : LineNo) (by : Option At) (b1 b2 b3 : Sheet) (e1 : b1.log ≡ b.log) (n1 : b1.nodes ≡ b.nodes) (c1 : b1.cut ≡ b.cut) (e2 : b2.log ≡ begun_log line sent b1.log) (n2 : b2.nodes ≡ b1.nodes) (c2 : b2.cut ≡ b1.cut)
+          module _ (line : LineNo) (by : Option At) (at : At) (olds news : List (ℕ × ℕ)) (b2 b3 : Sheet) (e2 : b2.log ≡ begun_log line sent (with_met true at 1 olds news b.log)) (n2 : b2.nodes ≡ b.nodes) (c2 : b2.cut ≡ b.cut)
               (e3 : b3.log ≡ kept (TaskEnd line seg by MergeStep true) ∷ b2.log) (n3 : b3.nodes ≡ b2.nodes) (c3 : b3.cut ≡ b2.cut) (done ended : Board) (done_rows : done.rows ≡ with_spread seg.0 (all_sent (spread_at (open_merge seg.0 last.rows))) last.rows)
               (done_posted : done.posted ≡ (last.posted ++ posts_of seg line (sent_left (spread_at (open_merge seg.0 last.rows)))) ++ post_after seg line (sent_left (spread_at (open_merge seg.0 last.rows)))) (done_counts : done.counts ≡ last.counts)
               (ended_rows : ended.rows ≡ done.rows) (ended_posted : ended.posted ≡ done.posted) (ended_counts : (x : At) → done_under x ended.counts ≡ done_under x done.counts + counts_one x by) where
@@ -305,10 +300,11 @@ module _ {D : Type 0} (cells : D → Cells) (r : Run) (b : Sheet) (board : Board
             ready_all lasting = post_path cells b2 b3 places last ended line seg by e3 n3 c3
                 (subst (λ (o : Option Spread). IsSomeAnd o (λ z. (z.all ≡ false) × (length z.left < b2.nodes))) (sym sent_at) (refl, few)) (ended_rows ∙ done_rows) (ended_posted ∙ done_posted)
                 (λ x. ended_counts x ∙ ap (λ (l : List DrainCount). done_under x l + counts_one x by) done_counts)
-                (begun_all cells b b2 places last line sent (e2 ∙ ap (λ (l : Log). begun_log line sent l) e1) (n2 ∙ n1) (c2 ∙ c1) (sends.shown b (ap (λ (c : CopyState). c.primary_gen.0) copied ∙ generation) (λ k d within. (are.each k d within).0) (written_all lasting)))
+                (begun_all cells (behind at olds news b) b2 places last line sent e2 n2 c2
+                (all_behind at olds news cells b last places (sends.shown b (ap (λ (c : CopyState). c.primary_gen.0) copied ∙ generation) (λ k d within. (are.each k d within).0) (written_all lasting))))
               where
                 few : length sent < b2.nodes
-                few = let many = as_many in let less = few_replicas b.nodes (printed b.log) p.0 nodes node here are in let size : b2.nodes ≡ b.nodes = n2 ∙ n1 in omega (arith, many, less, size)
+                few = let many = as_many in let less = few_replicas b.nodes (printed b.log) p.0 nodes node here are in let size : b2.nodes ≡ b.nodes = n2 in omega (arith, many, less, size)
 
             abbrev full : Spread
             full = record { state = copy; left = sent; all = true }
@@ -325,20 +321,14 @@ module _ {D : Type 0} (cells : D → Cells) (r : Run) (b : Sheet) (board : Board
             ended_posted_are = ended_posted ∙ (done_posted ∙ (ap (λ (o : Option Spread). (last.posted ++ posts_of seg line (sent_left o)) ++ post_after seg line (sent_left o)) sent_at
                 ∙ ap (λ (l : List Posted). (l ++ posts_of seg line sent) ++ post_after seg line sent) (sends.posted ∙ posted)))
 
-            -- what callers see
-            pub writes_merge : {calls1 : List ℕ} {cut1 : Bool} {sizes1 : List (Option ℕ)} {copies1 : List (List MergedCopy)} {jobs1 : List JobFiles} {plans1 : List Plans}
-                → WritesMerge line seg by r (record { ended = false; nodes = b3.nodes; log = b3.log; rest = record { calls_left = calls1; cut = cut1; sizes = sizes1; jobs = jobs1; copies = copies1; tasks = ended; plans = plans1 } })
+            -- what the call makes of it
+            pub writes_merge : WritesBehind at line seg by olds news b b3 board ended
             writes_merge = record {
               state = copy;
               sent = sent;
-              replicas = subst (λ (x : Run). AreReplicas x.nodes (printed x.log) (map (λ (y : Sent). y.node) sent)) view (subst (λ (ns : List NodeNo). AreReplicas b.nodes (printed b.log) ns) (sym sends.to) are);
-              writes = record {
-                is = record {
-                  running = refl;
-                  nodes = n3 ∙ (n2 ∙ (n1 ∙ ap (λ (x : Run). x.nodes) view));
-                  log = e3 ∙ ap (λ (l : Log). kept (TaskEnd line seg by MergeStep true) ∷ l) (e2 ∙ ap (λ (l : Log). begun_log line sent l) (e1 ∙ ap (λ (x : Run). x.log) view));
-                };
-                rows_are = ended_rows_are ∙ ap (λ (x : Run). with_spread seg.0 (Some full) x.rest.tasks.rows) view;
-                posted_are = ended_posted_are ∙ ap (λ (x : Run). (x.rest.tasks.posted ++ posts_of seg line sent) ++ post_after seg line sent) view;
-              };
+              replicas = subst (λ (ns : List NodeNo). AreReplicas b.nodes (printed b.log) ns) (sym sends.to) are;
+              log = e3 ∙ ap (λ (l : Log). kept (TaskEnd line seg by MergeStep true) ∷ l) e2;
+              nodes = n3 ∙ n2;
+              rows = ended_rows_are;
+              posted = ended_posted_are;
             }

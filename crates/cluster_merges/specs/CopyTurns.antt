@@ -1,35 +1,34 @@
 -- What the next step of a copy of a merged segment makes of a cluster.
-use Rattle.std.specs.Prelude.{ℕ, ◌≡◌, ◌+◌, ◌∷◌, ◌++◌, Bool, true, false, List, Option, Some, None, IsSome}
+use Rattle.std.specs.Prelude.{ℕ, ◌≡◌, ◌+◌, ◌∷◌, ◌++◌, ◌⊎◌, Bool, true, false, List, Option, Some, None, IsSome, ⊤}
 use Rattle.nrt_base.specs.declared.numbers.At.{At}
 use Rattle.nrt_base.specs.declared.numbers.LineNo.{LineNo}
 use Rattle.nrt_base.specs.declared.numbers.NodeNo.{NodeNo}
 use Rattle.nrt_base.specs.declared.numbers.SegNo.{SegNo}
-use Rattle.disk_model.specs.Disk.{Cells}
 use Rattle.codec_frame.specs.Checking.{HasFooter}
 use Rattle.copy_state.specs.Meta.{IsMetaOf}
 use Rattle.history_tables.specs.declared.jobs.Job.{Job}
 use Rattle.history_book.specs.Jobs.{job_at}
 use Rattle.history_book.specs.Log.{kept}
+use Rattle.link_model.specs.declared.fate.Fate.TheVariants.{Whole}
 use Rattle.history_book.specs.declared.inner.Inner.TheVariants.{FileOut, TaskEnd}
 use Rattle.history_book.specs.declared.inner.Step.TheVariants.{PreCopy as PreCopyStep}
 use Rattle.merge_tasks.specs.Merging.{Sheet}
 use Rattle.merge_tasks.specs.TaskLog.{carried_out}
 use Rattle.merge_tasks.specs.Board.{Board, open_merge, spread_at, with_spread, sent_left, sent_less, post_after, done_under, counts_one}
-use Rattle.cluster_nodes.specs.declared.nodes.NodePlace.{NodePlace}
 use Rattle.cluster_nodes.specs.declared.tasks.FileTask.{FileTask}
-use Rattle.node_merges.specs.MergeChanges.{SettlesMerged}
-use Rattle.node_merges.specs.MergePlaces.{MovesReplica}
+use Rattle.cluster_state.specs.Met.{has_risen}
 use Rattle.cluster_state.specs.Run.{Run}
-use Rattle.cluster_merges.specs.MergePaths.{IsAsBefore, HandsMergedFile, EndsCopyTask}
+use Rattle.cluster_merges.specs.MergePaths.{IsAsBefore, HandsMergedFile, EndsCopyTask, FailsCopy}
 use Rattle.cluster_merges.specs.declared.precopies.CopyTurn.{CopyTurn}
-use Rattle.cluster_merges.specs.declared.precopies.CopyTurn.TheVariants.{Waits, Hands, Ends}
+use Rattle.cluster_merges.specs.declared.precopies.CopyTurn.TheVariants.{Waits, Hands, Ends, Fails}
 
 -- A copy that misses a file waits where the job of a point runs at its node, and is handed the file where none runs; one that misses none, or
--- does not run, ends.
+-- does not run, ends; and any ends where a disk fails.
 abbrev pub IsTurnWhere : Bool → Option Job → CopyTurn → Type 0
 IsTurnWhere misses job Waits = (misses ≡ true) × IsSome job
 IsTurnWhere misses job (Hands file) = (misses ≡ true) × (job ≡ None)
 IsTurnWhere misses job Ends = misses ≡ false
+IsTurnWhere misses job Fails = ⊤
 
 -- ---- over what a path has in hand
 
@@ -42,14 +41,21 @@ pub record EndsCopyOf (line : LineNo) (seg : SegNo) (by : Option At) (n : NodeNo
   pub posted : after.posted ≡ board.posted ++ post_after seg line (sent_left (sent_less n.0 job (spread_at (open_merge seg.0 board.rows))))
   pub counts : (x : At) → done_under x after.counts ≡ done_under x board.counts + counts_one x by
 
--- the same, and the copy's files are pending at its replica
-pub record SettlesCopyOf {D : Type 0} (cells : D → Cells) (line : LineNo) (seg : SegNo) (by : Option At) (n : NodeNo) (job : ℕ) (b now : Sheet) (board after : Board) (old new : List (Option (NodePlace D))) : Type 0 where
-  pub moves : MovesReplica (SettlesMerged cells job) n.0 old new
+-- the same, as the disk of this node failed: what every disk had met before, and has met now
+pub record FailsCopyOf (line : LineNo) (seg : SegNo) (by : Option At) (failed n : NodeNo) (job : ℕ) (olds news : List (ℕ × ℕ)) (b now : Sheet) (board after : Board) : Type 0 where
   pub ends : EndsCopyOf line seg by n job b now board after
+  pub risen : has_risen failed.0 1 olds news ≡ true
+
+-- the faults that were met stand there, and nothing else changed
+pub record MeetsOf (b now : Sheet) (board after : Board) : Type 0 where
+  pub log : now.log ≡ b.log
+  pub nodes : now.nodes ≡ b.nodes
+  pub cut : now.cut ≡ b.cut
+  pub board_is : after ≡ board
 
 -- a file of the merged segment was handed out, with its metadata; it ends in a footer
 pub record HandsCopyFile (line : LineNo) (n : NodeNo) (job : ℕ) (b now : Sheet) (board after : Board) (file : FileTask) : Type 0 where
-  pub log : now.log ≡ kept (FileOut line n job file.name file.source None) ∷ b.log
+  pub log : now.log ≡ kept (FileOut line n job file.name file.source Whole None) ∷ b.log
   pub nodes : now.nodes ≡ b.nodes
   pub board_is : after ≡ board
   pub out : carried_out file.name now.log ≡ Some file.source
@@ -57,16 +63,19 @@ pub record HandsCopyFile (line : LineNo) (n : NodeNo) (job : ℕ) (b now : Sheet
   pub footer : HasFooter file.source
 
 -- The copy waits while the job of a point runs at its node; or its next file was handed out; or it missed none, or does not run any more, and its
--- task has ended.
-abbrev pub StepsCopyTo : LineNo → SegNo → Option At → NodeNo → ℕ → Sheet → Sheet → Board → Board → CopyTurn → Type 0
-StepsCopyTo line seg by n job b now board after Waits = (now ≡ b) × (after ≡ board) × IsSome (job_at n.0 b.log)
-StepsCopyTo line seg by n job b now board after (Hands file) = HandsCopyFile line n job b now board after file
-StepsCopyTo line seg by n job b now board after Ends = EndsCopyOf line seg by n job b now board after
+-- task has ended; or that ended as the disk of the primary or of the node failed. But for the first, the faults that were met stand there before.
+abbrev pub StepsCopyTo : LineNo → SegNo → Option At → NodeNo → NodeNo → ℕ → List (ℕ × ℕ) → List (ℕ × ℕ) → Sheet → Sheet → Sheet → Board → Board → CopyTurn → Type 0
+StepsCopyTo line seg by p n job olds news b met now board after Waits = (now ≡ b) × (after ≡ board) × IsSome (job_at n.0 b.log)
+StepsCopyTo line seg by p n job olds news b met now board after (Hands file) = HandsCopyFile line n job met now board after file
+StepsCopyTo line seg by p n job olds news b met now board after Ends = EndsCopyOf line seg by n job met now board after
+StepsCopyTo line seg by p n job olds news b met now board after Fails =
+    FailsCopyOf line seg by p n job olds news met now board after ⊎ FailsCopyOf line seg by n n job olds news met now board after
 
 -- ---- as callers see it
 
 -- the same of the next step
 abbrev pub TurnsCopy : LineNo → SegNo → Option At → NodeNo → ℕ → Run → Run → CopyTurn → Type 0
 TurnsCopy line seg by n job old new Waits = IsAsBefore old new × IsSome (job_at n.0 old.log)
-TurnsCopy line seg by n job old new (Hands file) = HandsMergedFile line n job old new file
+TurnsCopy line seg by n job old new (Hands file) = HandsMergedFile line seg n job old new file
 TurnsCopy line seg by n job old new Ends = EndsCopyTask line seg by n job old new
+TurnsCopy line seg by n job old new Fails = FailsCopy line seg by n job old new

@@ -3,3 +3,4 @@ pub mod MergePaths
 pub mod Running
 pub mod Sending
 pub mod TaskCalls
+pub mod TaskMet

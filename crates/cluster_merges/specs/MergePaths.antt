@@ -1,5 +1,5 @@
 -- What the steps of a merge make of a cluster.
-use Rattle.std.specs.Prelude.{ℕ, ◌≡◌, ◌≤◌, ◌<◌, ◌∷◌, ◌++◌, [], List, length, map, Bool, true, false, Option, Some, None}
+use Rattle.std.specs.Prelude.{ℕ, ◌≡◌, ◌≤◌, ◌<◌, ◌⊎◌, ◌∷◌, ◌++◌, [], List, length, map, Bool, true, false, Option, Some, None}
 use Rattle.nrt_base.specs.SegNumbers.{segments_of_generation}
 use Rattle.nrt_base.specs.declared.numbers.At.{At}
 use Rattle.nrt_base.specs.declared.numbers.LineNo.{LineNo}
@@ -16,11 +16,14 @@ use Rattle.script_serving.specs.Refusals.{put_publishes}
 use Rattle.history_rules.specs.declared.cause.Cause.{Cause}
 use Rattle.history_rules.specs.declared.cause.Cause.TheVariants.{Nothing, NamesSpent}
 use Rattle.history_rules.specs.declared.entry.Event.TheVariants.{Merging}
+use Rattle.history_rules.specs.Nodes.{primary_of}
 use Rattle.history_rules.specs.Points.{names_drawn}
+use Rattle.link_model.specs.declared.fate.Fate.TheVariants.{Whole}
 use Rattle.history_book.specs.declared.inner.Inner.TheVariants.{MergeOut, MergeEnd, JobBegun, FileOut, TaskOut, TaskEnd}
+use Rattle.history_book.specs.declared.inner.Step.{Step}
 use Rattle.history_book.specs.declared.inner.Step.TheVariants.{Merge as MergeStep, PreCopy as PreCopyStep, Cut as CutStep}
 use Rattle.history_book.specs.Log.{Log, printed, shown, kept}
-use Rattle.merge_tasks.specs.Merging.{next_name}
+use Rattle.merge_tasks.specs.Merging.{merge_on, cut_after, next_name}
 use Rattle.merge_tasks.specs.declared.tasks.OpenMerge.{OpenMerge}
 use Rattle.merge_tasks.specs.declared.tasks.Posted.{Posted}
 use Rattle.merge_tasks.specs.declared.tasks.Task.{Task}
@@ -29,6 +32,8 @@ use Rattle.merge_tasks.specs.TaskLog.{inputs_out, merge_task, carried_out}
 use Rattle.merge_tasks.specs.Board.{open_merge, spread_at, with_spread, without_merge, sent_left, sent_less, posts_of, post_after, posted_merge, step_of, IsToldKind}
 use Rattle.cluster_nodes.specs.declared.tasks.FileTask.{FileTask}
 use Rattle.cluster_state.specs.Run.{Run, IsNow}
+use Rattle.cluster_state.specs.Met.{failures_by_plan, has_risen}
+use Rattle.cluster_state.specs.GivesUp.{task_met_log}
 use Rattle.cluster_state.specs.Settles.{AreReplicas}
 use Rattle.cluster_state.specs.Merging.{IsFitKind}
 
@@ -90,39 +95,72 @@ begun_log line [] log = log
 begun_log line (s ∷ sent) log = begun_log line sent (kept (JobBegun line s.node s.job None None) ∷ log)
 
 -- A merge of which nothing was written is written now: a copy of it has begun to each replica that runs, in order, and a task is posted for each,
--- or, where none runs, the one to cut over.
+-- or, where none runs, the one to cut over; behind the faults of disks that the task met, which are of the line of the merge.
 pub record WritesMerge (line : LineNo) (seg : SegNo) (by : Option At) (old new : Run) : Type 0 where
+  pub at : At
+  pub on : merge_on seg.0 old.log ≡ Some at
   pub state : CopyState
   pub sent : List Sent
   pub replicas : AreReplicas old.nodes (printed old.log) (map (λ s. s.node) sent)
-  pub writes : IsBoard old new (kept (TaskEnd line seg by MergeStep true) ∷ begun_log line sent old.log)
+  pub writes : IsBoard old new (kept (TaskEnd line seg by MergeStep true) ∷ begun_log line sent (task_met_log at old new))
       (with_spread seg.0 (Some (record { state = state; left = sent; all = true })) old.rest.tasks.rows)
       ((old.rest.tasks.posted ++ posts_of seg line sent) ++ post_after seg line sent)
 
--- the task to build the segment has ended, or had before
-abbrev pub EndsBuild : LineNo → SegNo → Option At → Run → Run → Bool → Type 0
-EndsBuild line seg by old new true = WritesMerge line seg by old new
-EndsBuild line seg by old new false = IsAsBefore old new
+-- a copy has ended, and its task counts; the last one posts the task to cut over; behind the faults of disks that the task met, which are of the
+-- line of the merge
+pub record EndsCopyTask (line : LineNo) (seg : SegNo) (by : Option At) (n : NodeNo) (job : ℕ) (old new : Run) : Type 0 where
+  pub at : At
+  pub on : merge_on seg.0 old.log ≡ Some at
+  pub ends : IsBoard old new (kept (TaskEnd line seg by (PreCopyStep n job) true) ∷ task_met_log at old new)
+      (with_spread seg.0 (sent_less n.0 job (spread_at (open_merge seg.0 old.rest.tasks.rows))) old.rest.tasks.rows)
+      (old.rest.tasks.posted ++ post_after seg line (sent_left (sent_less n.0 job (spread_at (open_merge seg.0 old.rest.tasks.rows)))))
 
--- a copy has ended, and its task counts; the last one posts the task to cut over
-abbrev pub EndsCopyTask : LineNo → SegNo → Option At → NodeNo → ℕ → Run → Run → Type 0
-EndsCopyTask line seg by n job old new = IsBoard old new (kept (TaskEnd line seg by (PreCopyStep n job) true) ∷ old.log)
-    (with_spread seg.0 (sent_less n.0 job (spread_at (open_merge seg.0 old.rest.tasks.rows))) old.rest.tasks.rows)
-    (old.rest.tasks.posted ++ post_after seg line (sent_left (sent_less n.0 job (spread_at (open_merge seg.0 old.rest.tasks.rows)))))
-
--- a file of the merged segment was handed out, with its metadata; it ends in a footer
-pub record HandsMergedFile (line : LineNo) (n : NodeNo) (job : ℕ) (old new : Run) (file : FileTask) : Type 0 where
-  pub hands : IsBoard old new (kept (FileOut line n job file.name file.source None) ∷ old.log) old.rest.tasks.rows old.rest.tasks.posted
+-- a file of the merged segment was handed out, with its metadata; it ends in a footer; behind the faults that its task met
+pub record HandsMergedFile (line : LineNo) (seg : SegNo) (n : NodeNo) (job : ℕ) (old new : Run) (file : FileTask) : Type 0 where
+  pub at : At
+  pub on : merge_on seg.0 old.log ≡ Some at
+  pub hands : IsBoard old new (kept (FileOut line n job file.name file.source Whole None) ∷ task_met_log at old new) old.rest.tasks.rows old.rest.tasks.posted
   pub out : carried_out file.name new.log ≡ Some file.source
   pub meta : IsMetaOf file.source file.meta
   pub footer : HasFooter file.source
 
--- the step of a copy whose task has not ended: the next file is handed out; or it misses none, or does not run any more, and its task ends
-abbrev pub CopyGoesOn : LineNo → SegNo → Option At → NodeNo → ℕ → Run → Run → Option FileTask → Type 0
-CopyGoesOn line seg by n job old new (Some file) = HandsMergedFile line n job old new file
-CopyGoesOn line seg by n job old new None = EndsCopyTask line seg by n job old new
+-- the faults that a task of the merge met stand there, and nothing else changed
+pub record MeetsFaults (seg : SegNo) (old new : Run) : Type 0 where
+  pub at : At
+  pub on : merge_on seg.0 old.log ≡ Some at
+  pub meets : IsBoard old new (task_met_log at old new) old.rest.tasks.rows old.rest.tasks.posted
 
--- a merge was cut over, and its task counts
-pub record CutsOver (line : LineNo) (seg : SegNo) (by : Option At) (old new : Run) : Type 0 where
-  pub cuts : IsBoard old new (kept (TaskEnd line seg by CutStep true) ∷ kept (MergeEnd seg true) ∷ old.log) (without_merge seg.0 old.rest.tasks.rows) old.rest.tasks.posted
-  pub cut : new.rest.cut ≡ true
+-- a merge has ended, cut over or not, and its task, which counts, behind the faults of disks that the task met; they are of the line of the merge
+pub record EndsMerge (line : LineNo) (seg : SegNo) (by : Option At) (step : Step) (cut : Bool) (old new : Run) : Type 0 where
+  pub at : At
+  pub on : merge_on seg.0 old.log ≡ Some at
+  pub ends : IsBoard old new (kept (TaskEnd line seg by step true) ∷ kept (MergeEnd seg cut) ∷ task_met_log at old new) (without_merge seg.0 old.rest.tasks.rows) old.rest.tasks.posted
+  pub cut_is : new.rest.cut ≡ cut_after cut old.rest.cut
+
+-- the disk of this node failed
+abbrev pub NodeFails : NodeNo → Run → Run → Type 0
+NodeFails n old new = has_risen n.0 1 (map failures_by_plan old.rest.plans) (map failures_by_plan new.rest.plans) ≡ true
+
+-- the primary's disk failed
+pub record PrimaryFails (old new : Run) : Type 0 where
+  pub p : NodeNo
+  pub primary : primary_of (printed old.log) ≡ Some p
+  pub risen : NodeFails p old new
+
+-- a copy has ended, as the disk of the primary or of its node failed
+abbrev pub FailsCopy : LineNo → SegNo → Option At → NodeNo → ℕ → Run → Run → Type 0
+FailsCopy line seg by n job old new = EndsCopyTask line seg by n job old new × (PrimaryFails old new ⊎ NodeFails n old new)
+
+-- a merge was given up, as the primary's disk failed
+pub record GivesUp (line : LineNo) (seg : SegNo) (by : Option At) (step : Step) (old new : Run) : Type 0 where
+  pub merge : EndsMerge line seg by step false old new
+  pub disk : PrimaryFails old new
+
+-- a merge was cut over, or given up
+abbrev pub CutsOver : LineNo → SegNo → Option At → Run → Run → Type 0
+CutsOver line seg by old new = EndsMerge line seg by CutStep true old new ⊎ GivesUp line seg by CutStep old new
+
+-- the task to build the segment has ended, as its files are written or as the merge was given up; or it had before
+abbrev pub EndsBuild : LineNo → SegNo → Option At → Run → Run → Bool → Type 0
+EndsBuild line seg by old new true = WritesMerge line seg by old new ⊎ GivesUp line seg by MergeStep old new
+EndsBuild line seg by old new false = IsAsBefore old new

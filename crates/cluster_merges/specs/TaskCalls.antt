@@ -18,7 +18,7 @@ use Rattle.history_book.specs.Told.{counted_for}
 use Rattle.merge_tasks.specs.Board.{open_merge, spread_at, has_copy_task, is_copied}
 use Rattle.cluster_nodes.specs.declared.tasks.FileTask.{FileTask}
 use Rattle.cluster_state.specs.Run.{Run, misses_at}
-use Rattle.cluster_merges.specs.MergePaths.{IsBoard, IsAsBefore, BeginsMerge, HandsMergedFile, EndsCopyTask, CutsOver}
+use Rattle.cluster_merges.specs.MergePaths.{IsBoard, IsAsBefore, BeginsMerge, HandsMergedFile, EndsCopyTask, FailsCopy, MeetsFaults, CutsOver}
 use Rattle.cluster_state.specs.declared.turn.Turn.{Turn}
 use Rattle.cluster_state.specs.declared.turn.Turn.TheVariants.{Work, Done, Busy}
 
@@ -44,27 +44,32 @@ pub record MergeLine (at : At) (factor : ℕ) (old new : Run) : Type 0 where
   pub cause : Option Cause
   pub starts : primary_of (printed old.log) ≢ None → StartsOrRefuses at factor old new cause
 
--- the copy misses no file, or does not run any more, and its task has ended; or that had before
+-- the copy misses no file, or does not run any more, and its task has ended; or it ended as a disk failed; or that had before
 abbrev pub EndsCopyOnce : LineNo → SegNo → Option At → NodeNo → ℕ → Run → Run → Bool → Type 0
-EndsCopyOnce line seg by n job old new true = EndsCopyTask line seg by n job old new × (misses_at seg.0 n.0 job old ≡ false)
+EndsCopyOnce line seg by n job old new true = (EndsCopyTask line seg by n job old new × (misses_at seg.0 n.0 job old ≡ false)) ⊎ FailsCopy line seg by n job old new
 EndsCopyOnce line seg by n job old new false = IsAsBefore old new
 
--- Work and Busy exactly where the task has not ended and the copy misses a file: Busy while the job of a point runs at its node, and Work, with the
--- next file, where none runs.
+-- Work and Busy only where the task has not ended and the copy misses a file: Busy exactly where the job of a point runs at its node besides, and
+-- Work, with the next file, where none runs and no disk fails.
 abbrev pub PrecopyTurns : LineNo → SegNo → Option At → NodeNo → ℕ → Run → Run → Turn FileTask → Type 0
 PrecopyTurns line seg by n job old new (Work file) =
-    (has_copy_task n.0 job (spread_at (open_merge seg.0 old.rest.tasks.rows)) ≡ true) × HandsMergedFile line n job old new file
+    (has_copy_task n.0 job (spread_at (open_merge seg.0 old.rest.tasks.rows)) ≡ true) × HandsMergedFile line seg n job old new file
     × (misses_at seg.0 n.0 job old ≡ true) × (job_at n.0 old.log ≡ None)
 PrecopyTurns line seg by n job old new Busy =
     (has_copy_task n.0 job (spread_at (open_merge seg.0 old.rest.tasks.rows)) ≡ true) × IsSome (job_at n.0 old.log) × IsAsBefore old new
     × (misses_at seg.0 n.0 job old ≡ true)
 PrecopyTurns line seg by n job old new Done = EndsCopyOnce line seg by n job old new (has_copy_task n.0 job (spread_at (open_merge seg.0 old.rest.tasks.rows)))
 
--- a part has come for a copy whose task has not ended, or has ended
-abbrev pub PartTurns : SegNo → NodeNo → ℕ → Run → Run → Turn Unit → Type 0
-PartTurns seg n job old new (Work w) = IsAsBefore old new × (has_copy_task n.0 job (spread_at (open_merge seg.0 old.rest.tasks.rows)) ≡ true)
-PartTurns seg n job old new Done = IsAsBefore old new × (has_copy_task n.0 job (spread_at (open_merge seg.0 old.rest.tasks.rows)) ≡ false)
-PartTurns seg n job old new Busy = ⊥
+-- a part has come for a copy whose task has not ended, and ends it where the disk fails; or that had ended before
+abbrev pub PartEnds : LineNo → SegNo → Option At → NodeNo → ℕ → Run → Run → Bool → Type 0
+PartEnds line seg by n job old new true = FailsCopy line seg by n job old new
+PartEnds line seg by n job old new false = IsAsBefore old new
+
+-- the same, and the task goes on
+abbrev pub PartTurns : LineNo → SegNo → Option At → NodeNo → ℕ → Run → Run → Turn Unit → Type 0
+PartTurns line seg by n job old new (Work w) = MeetsFaults seg old new × (has_copy_task n.0 job (spread_at (open_merge seg.0 old.rest.tasks.rows)) ≡ true)
+PartTurns line seg by n job old new Done = PartEnds line seg by n job old new (has_copy_task n.0 job (spread_at (open_merge seg.0 old.rest.tasks.rows)))
+PartTurns line seg by n job old new Busy = ⊥
 
 -- no publish was in flight and the merge was cut over, or it was to be cut over no more
 abbrev pub CutsOnce : LineNo → SegNo → Option At → Run → Run → Bool → Type 0

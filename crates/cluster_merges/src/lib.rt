@@ -4,6 +4,7 @@
 mod cuts;
 mod drains;
 mod line_drains;
+mod met;
 mod precopies;
 mod starts;
 mod takes;

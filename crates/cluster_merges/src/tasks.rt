@@ -16,7 +16,7 @@ use crate::precopies::{CopyTurn, next_merged, take_merged};
 use crate::starts::start_merge;
 use crate::takes::take_task;
 use crate::writes::ready_merge;
-use cluster_nodes::FileTask;
+use cluster_nodes::{FileTask, Went};
 use cluster_state::{ClusterState, Turn, refuse};
 use copy_job::Part;
 use disk_model::FaultDir;
@@ -83,8 +83,8 @@ pub fn task_take<D: FaultDir + Drop>(
     take_task(state, by)
 }
 
-/// Writes the merged segment of a merge of which nothing is written, and begins a copy of it to each replica that runs. Else the task has
-/// ended, and nothing changes.
+/// Writes the merged segment of a merge of which nothing is written, and begins a copy of it to each replica that runs; or gives the merge up,
+/// where the disk fails. Else the task has ended, and nothing changes.
 pub fn merge_ready<D: FaultDir + Drop>(
     state: &mut ClusterState<D>,
     alloc: Global,
@@ -134,13 +134,17 @@ pub fn precopy_next<D: FaultDir + Drop>(
         CopyTurn::Waits => Ok(Turn::Busy),
         CopyTurn::Hands(file) => Ok(Turn::Work(file)),
         CopyTurn::Ends => Ok(Turn::Done),
+        CopyTurn::Fails => Ok(Turn::Done),
     }
 }
 
 /// Puts a part into a copy of a merged segment. Done says that its task has ended.
 pub fn precopy_arrived<D: FaultDir + Drop>(
     state: &mut ClusterState<D>,
+    alloc: Global,
+    line: LineNo,
     seg: SegNo,
+    by: Option<At>,
     n: NodeNo,
     job: u64,
     part: Part,
@@ -149,18 +153,20 @@ pub fn precopy_arrived<D: FaultDir + Drop>(
     requires node { IsNode state.old.nodes n.0 }
     requires out { carried_out part.name state.old.log ≡ Some part.bytes }
     requires meta { IsMetaOf part.bytes part.meta }
-    ensures ok { IfOk result (PartTurns seg n job state.old state.new) }
+    ensures ok { IfOk result (PartTurns line seg by n job state.old state.new) }
     ensures err { OnErr result (IsEnded state.old state.new) }
 {
     if !state.tasks.has_copy_task(seg, n, job) {
         return Ok(Turn::Done);
     }
-    take_merged(state, seg, n, job, part)?;
-    Ok(Turn::Work(()))
+    match take_merged(alloc, state, line, seg, by, n, job, part)? {
+        Went::Done(()) => Ok(Turn::Work(())),
+        Went::Failed => Ok(Turn::Done),
+    }
 }
 
-/// Cuts a merge over whose copies have all ended. Busy comes exactly where it is to be cut over and a publish is in flight; where its
-/// task has ended nothing changes.
+/// Cuts a merge over whose copies have all ended, or gives it up, where the disk fails. Busy comes exactly where it is to be cut over and a
+/// publish is in flight; where its task has ended nothing changes.
 pub fn merge_cut<D: FaultDir + Drop>(
     state: &mut ClusterState<D>,
     alloc: Global,

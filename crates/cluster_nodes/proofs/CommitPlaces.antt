@@ -8,7 +8,7 @@ use Rattle.segment_infos.specs.declared.infos.Infos.{Infos}
 use Rattle.segment_infos.specs.Files.{AreFilesOf}
 use Rattle.commit_steps.specs.declared.stage.Stage.{Stage}
 use Rattle.commit_steps.specs.declared.stage.CommitBook.{CommitBook}
-use Rattle.commit_steps.specs.Book.{HasBegun, book_after, is_last_step}
+use Rattle.commit_steps.specs.Book.{HasBegun, book_after, book_names, is_last_step}
 use Rattle.searcher_switch.specs.Node.{IsWholeNode, HoldsNoMore}
 use Rattle.searcher_switch.specs.Appearing.{NoneAppears, AppearsOnly, IsNameInFlight}
 use Rattle.searcher_switch.proofs.Appearing.{only_none}
@@ -23,7 +23,7 @@ use Rattle.cluster_nodes.specs.declared.nodes.Node.{Node}
 use Rattle.cluster_nodes.specs.declared.nodes.Node.TheVariants.{Primary, Replica, Down}
 use Rattle.cluster_nodes.specs.declared.nodes.NodePlace.{NodePlace}
 use Rattle.cluster_nodes.specs.Places.{place_of, disk_of}
-use Rattle.cluster_nodes.specs.Commits.{HasStage, HasStageAt, StepsBook, AltersCommits}
+use Rattle.cluster_nodes.specs.Commits.{HasStage, HasStageAt, KeepsBook, StepsBook, AltersCommits}
 
 -- what the laws on counts say
 abbrev BeginLaw : Type 0
@@ -32,6 +32,16 @@ BeginLaw = (cells : Cells) (old new : Holdings) (hs : List Name) (was now : Comm
 
 abbrev StepLaw : Type 0
 StepLaw = (before after : Cells) (old new : Holdings) (hs : List Name) (was now : CommitBook) → IsWholeNode before old hs was → IsWholeNode after new hs now → now ≡ book_after was → HoldsNoMore old new
+
+-- with the same book no file is held more
+same_holds : {before after : Cells} (old new : Holdings) (hs : List Name) (was now : CommitBook) → IsWholeNode before old hs was → IsWholeNode after new hs now → now ≡ was → HoldsNoMore old new
+same_holds old new hs was now first second same = record {
+  each = λ q plain pending none.
+      let a = first.counts q in
+      let b = second.counts q in
+      let c : times (book_names now) q ≡ times (book_names was) q = ap (λ (k : CommitBook). times (book_names k) q) same in
+      omega (arith, none, a, b, c);
+}
 
 module _ {D : Type 0} (cells : D → Cells) where
   -- a name of the point that is searched is one of the primary's
@@ -57,20 +67,37 @@ module _ {D : Type 0} (cells : D → Cells) where
     begun,
   )
 
-  -- or makes the next call for it
-  pub primary_steps : (law : StepLaw) (x : Node D) (p q : PrimaryParts D) (done : Bool) → x ≡ Primary p → q ≡ record p { dir = q.dir; files = q.files; commits = q.commits } → KeepsHeldBytes cells p q
-      → AppearsOnly (IsNameInFlight p.commits.stage) (cells p.dir) (cells q.dir) → IsPrimary cells q → q.commits ≡ book_after p.commits → done ≡ is_last_step p.commits.stage → AltersCommits (StepsBook done) cells x (Primary q)
-  primary_steps law x p q done is others stays appears whole after last = subst (λ (z : Node D). AltersCommits (StepsBook done) cells z (Primary q)) (sym is) (
+  -- its commits moved so, and it holds no file of a segment that nobody held
+  primary_alters : (Step : Infos → CommitBook → CommitBook → Type 0) (x : Node D) (p q : PrimaryParts D) → x ≡ Primary p → q ≡ record p { dir = q.dir; files = q.files; commits = q.commits } → KeepsHeldBytes cells p q
+      → AppearsOnly (IsNameInFlight p.commits.stage) (cells p.dir) (cells q.dir) → IsPrimary cells q → (IsPrimary cells p → HoldsNoMore p.files q.files) → Step p.point_infos p.commits q.commits → AltersCommits Step cells x (Primary q)
+  primary_alters Step x p q is others stays appears whole no_more step = subst (λ (z : Node D). AltersCommits Step cells z (Primary q)) (sym is) (
     record {
       others = others;
       whole = whole;
       stays = stays;
-      no_more = λ was. law (cells p.dir) (cells q.dir) p.files q.files (primary_names p) p.commits q.commits was.node
-          (subst (λ (names : List Name). IsWholeNode (cells q.dir) q.files names q.commits) (ap (λ (z : PrimaryParts D). primary_names z) others) whole.node) after;
+      no_more = no_more;
       appears = appears;
     },
-    record { after = after; ends = last },
+    step,
   )
+
+  -- the holders beside the commits are those that were
+  whole_along : (p q : PrimaryParts D) → q ≡ record p { dir = q.dir; files = q.files; commits = q.commits } → IsPrimary cells q → IsWholeNode (cells q.dir) q.files (primary_names p) q.commits
+  whole_along p q others whole = subst (λ (names : List Name). IsWholeNode (cells q.dir) q.files names q.commits) (ap (λ (z : PrimaryParts D). primary_names z) others) whole.node
+
+  -- or makes the next call for it
+  pub primary_steps : (law : StepLaw) (x : Node D) (p q : PrimaryParts D) (done : Bool) → x ≡ Primary p → q ≡ record p { dir = q.dir; files = q.files; commits = q.commits } → KeepsHeldBytes cells p q
+      → AppearsOnly (IsNameInFlight p.commits.stage) (cells p.dir) (cells q.dir) → IsPrimary cells q → q.commits ≡ book_after p.commits → done ≡ is_last_step p.commits.stage → AltersCommits (StepsBook done) cells x (Primary q)
+  primary_steps law x p q done is others stays appears whole after last =
+      primary_alters (StepsBook done) x p q is others stays appears whole
+      (λ was. law (cells p.dir) (cells q.dir) p.files q.files (primary_names p) p.commits q.commits was.node (whole_along p q others whole) after)
+      (record { after = after; ends = last })
+
+  -- or its disk fails
+  pub primary_fails : (x : Node D) (p q : PrimaryParts D) → x ≡ Primary p → q ≡ record p { dir = q.dir; files = q.files; commits = q.commits } → KeepsHeldBytes cells p q
+      → AppearsOnly (IsNameInFlight p.commits.stage) (cells p.dir) (cells q.dir) → IsPrimary cells q → q.commits ≡ p.commits → AltersCommits KeepsBook cells x (Primary q)
+  primary_fails x p q is others stays appears whole same =
+      primary_alters KeepsBook x p q is others stays appears whole (λ was. same_holds p.files q.files (primary_names p) p.commits q.commits was.node (whole_along p q others whole) same) same
 
   -- the same of a replica
   pub replica_begins : (x : Node D) (r s : ReplicaParts D) → x ≡ Replica r → s ≡ record r { files = s.files; commits = s.commits } → IsWholeReplica cells s → (AreStanding cells r → AreStanding cells s) → KeepsSource cells r s
@@ -86,9 +113,10 @@ module _ {D : Type 0} (cells : D → Cells) where
     begun,
   )
 
-  pub replica_steps : (x : Node D) (r s : ReplicaParts D) (done : Bool) → x ≡ Replica r → s ≡ record r { dir = s.dir; files = s.files; commits = s.commits } → IsWholeReplica cells s → (AreStanding cells r → AreStanding cells s) → KeepsSource cells r s
-      → AppearsOnly (IsNameInFlight r.commits.stage) (cells r.dir) (cells s.dir) → s.commits ≡ book_after r.commits → done ≡ is_last_step r.commits.stage → AltersCommits (StepsBook done) cells x (Replica s)
-  replica_steps x r s done is others whole standing sourced appears after last = subst (λ (z : Node D). AltersCommits (StepsBook done) cells z (Replica s)) (sym is) (
+  -- its commits moved so
+  replica_alters : (Step : Infos → CommitBook → CommitBook → Type 0) (x : Node D) (r s : ReplicaParts D) → x ≡ Replica r → s ≡ record r { dir = s.dir; files = s.files; commits = s.commits } → IsWholeReplica cells s → (AreStanding cells r → AreStanding cells s)
+      → KeepsSource cells r s → AppearsOnly (IsNameInFlight r.commits.stage) (cells r.dir) (cells s.dir) → Step r.infos r.commits s.commits → AltersCommits Step cells x (Replica s)
+  replica_alters Step x r s is others whole standing sourced appears step = subst (λ (z : Node D). AltersCommits Step cells z (Replica s)) (sym is) (
     record {
       others = others;
       whole = whole;
@@ -96,8 +124,16 @@ module _ {D : Type 0} (cells : D → Cells) where
       sourced = sourced;
       appears = appears;
     },
-    record { after = after; ends = last },
+    step,
   )
+
+  pub replica_steps : (x : Node D) (r s : ReplicaParts D) (done : Bool) → x ≡ Replica r → s ≡ record r { dir = s.dir; files = s.files; commits = s.commits } → IsWholeReplica cells s → (AreStanding cells r → AreStanding cells s) → KeepsSource cells r s
+      → AppearsOnly (IsNameInFlight r.commits.stage) (cells r.dir) (cells s.dir) → s.commits ≡ book_after r.commits → done ≡ is_last_step r.commits.stage → AltersCommits (StepsBook done) cells x (Replica s)
+  replica_steps x r s done is others whole standing sourced appears after last = replica_alters (StepsBook done) x r s is others whole standing sourced appears (record { after = after; ends = last })
+
+  pub replica_fails : (x : Node D) (r s : ReplicaParts D) → x ≡ Replica r → s ≡ record r { dir = s.dir; files = s.files; commits = s.commits } → IsWholeReplica cells s → (AreStanding cells r → AreStanding cells s) → KeepsSource cells r s
+      → AppearsOnly (IsNameInFlight r.commits.stage) (cells r.dir) (cells s.dir) → s.commits ≡ r.commits → AltersCommits KeepsBook cells x (Replica s)
+  replica_fails x r s is others whole standing sourced appears same = replica_alters KeepsBook x r s is others whole standing sourced appears same
 
   -- ---- in a place
 

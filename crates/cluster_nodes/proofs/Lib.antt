@@ -10,5 +10,6 @@ mod PromotedNodes
 pub mod RunningJobs
 pub mod Slots
 pub mod Stepping
+pub mod Stopping
 pub mod Taking
 pub mod TicketNodes

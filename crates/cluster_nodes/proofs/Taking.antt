@@ -1,12 +1,13 @@
 -- Nodes that are taken out of their places and put back.
 use Rattle.std.proofs.Common.{◌≡◌, ◌≢◌, ◌==◌, ℕ, Bool, true, false, List, Some, None, Option, Vec, Global, refl, ap, ◌∙◌, sym, subst, if◌then◌else◌, length}
 use Rattle.std.specs.Prelude.{IfSome, IfOk, OnOk}
+use Rattle.std.proofs.lemmas.Bool.{eqb-true}
 use Rattle.std.proofs.Common.{Result, Ok, Err}
 use Rattle.std.specs.declared.alloc.AllocError.{AllocError}
 use Rattle.copy_job.specs.declared.copying.Part.{Part}
 use Rattle.index_primary.specs.Primary.{IsPrimary}
 use Rattle.index_primary.specs.Calls.{HoldsNoNew}
-use Rattle.cluster_nodes.proofs.Stepping.{alters_by, none_by}
+use Rattle.cluster_nodes.proofs.Stopping.{reads_alters}
 use Rattle.disk_model.specs.Disk.{Name, Cells}
 use Rattle.index_primary.specs.declared.parts.PrimaryParts.{PrimaryParts}
 use Rattle.replica_node.specs.declared.parts.ReplicaParts.{ReplicaParts}
@@ -15,8 +16,11 @@ use Rattle.cluster_nodes.specs.declared.held.HeldTicket.{HeldTicket}
 use Rattle.cluster_nodes.specs.declared.nodes.Node.TheVariants.{Primary, Replica}
 use Rattle.cluster_nodes.specs.declared.nodes.NodePlace.{NodePlace}
 use Rattle.cluster_nodes.specs.Places.{place_of, IsSlot, HasPrimary}
-use Rattle.cluster_nodes.specs.JobChanges.{HasReplica, BeginsAt, FinishesAt, TakesPart}
-use Rattle.cluster_nodes.specs.JobPlaces.{StandThere, HoldsOfBoth, AreBoth, MovesOne, MovesBoth, BeginsIn, FinishesIn, ReadsIn, TakesIn}
+use Rattle.cluster_nodes.specs.JobChanges.{HasReplica, AltersStates, BeginsAt, BeginsNot, FinishesAt, ReadsFor, StopsFor, TakesFor}
+use Rattle.cluster_nodes.specs.JobPlaces.{StandThere, HoldsOfBoth, AreBoth, MovesOne, MovesBoth, AltersIn, StopsIn, BeginsIn, FinishesIn, ReadsIn, TakesIn}
+use Rattle.cluster_nodes.specs.declared.went.Went.{Went}
+use Rattle.cluster_nodes.specs.declared.went.Went.TheVariants.{Done, Failed}
+use Rattle.cluster_nodes.specs.Went.{ByWent}
 
 module _ {D : Type 0} where
   pub primary_some : (o : Option (NodePlace D)) → HasPrimary o → o ≢ None
@@ -79,44 +83,82 @@ module _ {D : Type 0} where
       → ((m : ℕ) → place_of a m ≡ (if p == m then None else place_of old m)) → place_of old p ≡ Some (record { node = Primary q; held = hq }) → place_of a n ≡ Some (record { node = Replica r; held = hr }) → HoldsOfBoth P p n old → P q r
   may_of P old a p n q r hq hr stand taken there_q there_r holds = holds q r hq hr there_q (sym (other_still old a p n stand.apart taken) ∙ there_r)
 
-  pub begun_in : (cells : D → Cells) (result : Result ℕ AllocError) (old a b new : List (Option (NodePlace D))) (p n : ℕ) (q q' : PrimaryParts D) (r r' : ReplicaParts D) (hq hr : Vec HeldTicket Global) → StandThere p n old
-      → length a ≡ length old → ((m : ℕ) → place_of a m ≡ (if p == m then None else place_of old m)) → length b ≡ length a → ((m : ℕ) → place_of b m ≡ (if n == m then None else place_of a m)) → length new ≡ length b
-      → ((m : ℕ) → place_of new m ≡ (if n == m then Some (record { node = Replica r'; held = hr }) else if p == m then Some (record { node = Primary q'; held = hq }) else place_of b m))
-      → place_of old p ≡ Some (record { node = Primary q; held = hq }) → place_of a n ≡ Some (record { node = Replica r; held = hr })
-      → IfOk result (λ number. BeginsAt cells number q q' r r') → IfOk result (λ number. BeginsIn cells p n number old new)
-  begun_in cells (Ok number) old a b new p n q q' r r' hq hr stand ca ta cb tb cn tn there_q there_r begins = record {
-    both = are_both old a p n q r hq hr stand ta there_q there_r;
-    primary = q';
-    replica = r';
-    moves = moved_both old a b new p n (record { node = Primary q'; held = hq }) (record { node = Replica r'; held = hr }) ca ta cb tb cn tn;
-    begins = begins;
-  }
-  begun_in cells (Err fault) old a b new p n q q' r r' hq hr stand ca ta cb tb cn tn there_q there_r begins = tt
+  -- the one of the two that alone is another
+  pub one_primary : (old new : List (Option (NodePlace D))) (p n : ℕ) (x y : NodePlace D) → (p == n) ≡ false → MovesBoth p n x y old new → place_of old n ≡ Some y → MovesOne p x old new
+  one_primary old new p n x y apart moves there = record { count = moves.count; there = λ m. tests m (n == m) refl }
+    where
+      tests : (m : ℕ) (b : Bool) → (n == m) ≡ b → place_of new m ≡ (if p == m then Some x else place_of old m)
+      tests m true here =
+          let same : n ≡ m = eqb-true n m here in
+          moves.there m ∙ (ap (λ (c : Bool). if c then Some y else if p == m then Some x else place_of old m) here
+          ∙ (sym there ∙ (ap (place_of old) same ∙ sym (ap (λ (c : Bool). if c then Some x else place_of old m) (ap (λ (k : ℕ). p == k) (sym same) ∙ apart)))))
+      tests m false away = moves.there m ∙ ap (λ (c : Bool). if c then Some y else if p == m then Some x else place_of old m) away
 
-  pub finished_in : (cells : D → Cells) (result : Result Unit AllocError) (old a b new : List (Option (NodePlace D))) (p n : ℕ) (q q' : PrimaryParts D) (r r' : ReplicaParts D) (hq hr : Vec HeldTicket Global) → StandThere p n old
-      → length a ≡ length old → ((m : ℕ) → place_of a m ≡ (if p == m then None else place_of old m)) → length b ≡ length a → ((m : ℕ) → place_of b m ≡ (if n == m then None else place_of a m)) → length new ≡ length b
-      → ((m : ℕ) → place_of new m ≡ (if n == m then Some (record { node = Replica r'; held = hr }) else if p == m then Some (record { node = Primary q'; held = hq }) else place_of b m))
-      → place_of old p ≡ Some (record { node = Primary q; held = hq }) → place_of a n ≡ Some (record { node = Replica r; held = hr })
-      → OnOk result (IfSome (running_point r.job) (λ j. FinishesAt cells j q q' r r')) → OnOk result (FinishesIn cells p n old new)
-  finished_in cells (Ok number) old a b new p n q q' r r' hq hr stand ca ta cb tb cn tn there_q there_r finishes = record {
-    both = are_both old a p n q r hq hr stand ta there_q there_r;
-    primary = q';
-    replica = r';
-    moves = moved_both old a b new p n (record { node = Primary q'; held = hq }) (record { node = Replica r'; held = hr }) ca ta cb tb cn tn;
-    finishes = finishes;
-  }
-  finished_in cells (Err fault) old a b new p n q q' r r' hq hr stand ca ta cb tb cn tn there_q there_r finishes = tt
+  pub one_replica : (old new : List (Option (NodePlace D))) (p n : ℕ) (x y : NodePlace D) → MovesBoth p n x y old new → place_of old p ≡ Some x → MovesOne n y old new
+  one_replica old new p n x y moves there = record { count = moves.count; there = λ m. moves.there m ∙ ap (λ (o : Option (NodePlace D)). if n == m then Some y else o) (tests m (p == m) refl) }
+    where
+      tests : (m : ℕ) (b : Bool) → (p == m) ≡ b → (if b then Some x else place_of old m) ≡ place_of old m
+      tests m true here = sym there ∙ ap (place_of old) (eqb-true p m here)
+      tests m false away = refl
 
-  pub taken_in : (cells : D → Cells) (result : Result Unit AllocError) (part : Part) (old mid new : List (Option (NodePlace D))) (n : ℕ) (r r' : ReplicaParts D) (held : Vec HeldTicket Global) → IsSlot old n
-      → length mid ≡ length old → ((m : ℕ) → place_of mid m ≡ (if n == m then None else place_of old m)) → length new ≡ length mid → ((m : ℕ) → place_of new m ≡ (if n == m then Some (record { node = Replica r'; held = held }) else place_of mid m))
-      → place_of old n ≡ Some (record { node = Replica r; held = held }) → OnOk result (TakesPart cells part r r') → OnOk result (TakesIn cells n part old new)
-  taken_in cells (Ok x) part old mid new n r r' held slot cm tm cn tn there takes = record {
-    at = record { slot = slot; parts = r; held = held; there = there };
-    replica = r';
-    moves = moved_one old mid new n (record { node = Replica r'; held = held }) cm tm cn tn;
-    takes = takes;
-  }
-  taken_in cells (Err fault) part old mid new n r r' held slot cm tm cn tn there takes = tt
+  -- the two were taken out, changed and put back
+  module _ (cells : D → Cells) (old a b new : List (Option (NodePlace D))) (p n : ℕ) (q q' : PrimaryParts D) (r r' : ReplicaParts D) (hq hr : Vec HeldTicket Global) (stand : StandThere p n old)
+      (ca : length a ≡ length old) (ta : (m : ℕ) → place_of a m ≡ (if p == m then None else place_of old m)) (cb : length b ≡ length a) (tb : (m : ℕ) → place_of b m ≡ (if n == m then None else place_of a m)) (cn : length new ≡ length b)
+      (tn : (m : ℕ) → place_of new m ≡ (if n == m then Some (record { node = Replica r'; held = hr }) else if p == m then Some (record { node = Primary q'; held = hq }) else place_of b m))
+      (there_q : place_of old p ≡ Some (record { node = Primary q; held = hq })) (there_r : place_of a n ≡ Some (record { node = Replica r; held = hr })) where
+    abbrev both_there : AreBoth old p n
+    both_there = are_both old a p n q r hq hr stand ta there_q there_r
+
+    both_moved : MovesBoth p n (record { node = Primary q'; held = hq }) (record { node = Replica r'; held = hr }) old new
+    both_moved = moved_both old a b new p n (record { node = Primary q'; held = hq }) (record { node = Replica r'; held = hr }) ca ta cb tb cn tn
+
+    -- the primary alone is another
+    abbrev altered_alone : AltersStates cells q q' → q'.states ≡ q.states → r' ≡ r → AltersIn cells p old new
+    altered_alone altered states same = record {
+      at = both_there.primary;
+      primary = q';
+      moves = one_primary old new p n (record { node = Primary q'; held = hq }) (record { node = Replica r'; held = hr }) stand.apart both_moved
+          (both_there.replica.there ∙ ap (λ (z : ReplicaParts D). Some (record { node = Replica z; held = hr })) (sym same));
+      alters = altered;
+      states = states;
+    }
+
+    stopped_at : (part : Option Part) → StopsFor cells part q q' r r' → StopsIn cells part p n old new
+    stopped_at part stops = record { both = both_there; primary = q'; replica = r'; moves = both_moved; stops = stops }
+
+    pub begun_in : (result : Result (Went ℕ) AllocError) → IfOk result (ByWent (λ number. BeginsAt cells number q q' r r') (BeginsNot cells q q' r r')) → IfOk result (ByWent (λ number. BeginsIn cells p n number old new) (AltersIn cells p old new))
+    begun_in (Ok (Done number)) begins = record { both = both_there; primary = q'; replica = r'; moves = both_moved; begins = begins }
+    begun_in (Ok Failed) not = altered_alone not.primary not.states not.replica
+    begun_in (Err fault) none = tt
+
+    pub stopped_in : (result : Result Unit AllocError) → OnOk result (StopsFor cells None q q' r r') → OnOk result (StopsIn cells None p n old new)
+    stopped_in (Ok x) stops = stopped_at None stops
+    stopped_in (Err fault) none = tt
+
+    pub finished_in : (result : Result (Went Unit) AllocError) → IfOk result (ByWent (λ done. IfSome (running_point r.job) (λ j. FinishesAt cells j q q' r r')) (StopsFor cells None q q' r r'))
+        → IfOk result (ByWent (λ done. FinishesIn cells p n old new) (StopsIn cells None p n old new))
+    finished_in (Ok (Done x)) finishes = record { both = both_there; primary = q'; replica = r'; moves = both_moved; finishes = finishes }
+    finished_in (Ok Failed) stops = stopped_at None stops
+    finished_in (Err fault) none = tt
+
+    pub read_in : (name : Name) (result : Result (Went (List ℕ)) AllocError) → IfOk result (ByWent (λ bytes. ReadsFor cells name bytes q q' r r') (StopsFor cells None q q' r r'))
+        → IfOk result (ByWent (λ bytes. ReadsIn cells p name bytes old new) (StopsIn cells None p n old new))
+    read_in name (Ok (Done bytes)) reads =
+        let alone = altered_alone reads.primary reads.states reads.replica in
+        record { at = alone.at; primary = alone.primary; moves = alone.moves; alters = alone.alters; states = alone.states; there = reads.there }
+    read_in name (Ok Failed) stops = stopped_at None stops
+    read_in name (Err fault) none = tt
+
+    pub taken_in : (part : Part) (result : Result (Went Unit) AllocError) → IfOk result (ByWent (λ done. TakesFor cells part q q' r r') (StopsFor cells (Some part) q q' r r'))
+        → IfOk result (ByWent (λ done. TakesIn cells n part old new) (StopsIn cells (Some part) p n old new))
+    taken_in part (Ok (Done x)) takes = record {
+      at = both_there.replica;
+      replica = r';
+      moves = one_replica old new p n (record { node = Primary q'; held = hq }) (record { node = Replica r'; held = hr }) both_moved (there_q ∙ ap (λ (z : PrimaryParts D). Some (record { node = Primary z; held = hq })) (sym takes.primary));
+      takes = takes.takes;
+    }
+    taken_in part (Ok Failed) stops = stopped_at (Some part) stops
+    taken_in part (Err fault) none = tt
 
   pub read_at : (cells : D → Cells) (bytes : List ℕ) (name : Name) (old mid new : List (Option (NodePlace D))) (p : ℕ) (q q' : PrimaryParts D) (held : Vec HeldTicket Global) → IsSlot old p
       → length mid ≡ length old → ((m : ℕ) → place_of mid m ≡ (if p == m then None else place_of old m)) → length new ≡ length mid → ((m : ℕ) → place_of new m ≡ (if p == m then Some (record { node = Primary q'; held = held }) else place_of mid m))
@@ -125,8 +167,19 @@ module _ {D : Type 0} where
     at = record { slot = slot; parts = q; held = held; there = there };
     primary = q';
     moves = moved_one old mid new p (record { node = Primary q'; held = held }) cm tm cn tn;
-    alters = alters_by cells q q' (record { held = λ r a b. ap (λ (c : Cells). (c r).now) same }) no_new (none_by same)
-        (is ∙ ap (λ (x : PrimaryParts D). record q { dir = q'.dir; files = x.files; states = x.states }) (sym is)) (λ w. whole);
+    alters = reads_alters cells q q' same is no_new whole;
     states = ap (λ (x : PrimaryParts D). x.states) is;
     there = reads;
+  }
+
+  -- the primary's disk failed
+  pub unread_at : (cells : D → Cells) (old mid new : List (Option (NodePlace D))) (p : ℕ) (q q' : PrimaryParts D) (held : Vec HeldTicket Global) → IsSlot old p
+      → length mid ≡ length old → ((m : ℕ) → place_of mid m ≡ (if p == m then None else place_of old m)) → length new ≡ length mid → ((m : ℕ) → place_of new m ≡ (if p == m then Some (record { node = Primary q'; held = held }) else place_of mid m))
+      → place_of old p ≡ Some (record { node = Primary q; held = held }) → cells q'.dir ≡ cells q.dir → q' ≡ record q { dir = q'.dir } → HoldsNoNew q q' → IsPrimary cells q' → AltersIn cells p old new
+  unread_at cells old mid new p q q' held slot cm tm cn tn there same is no_new whole = record {
+    at = record { slot = slot; parts = q; held = held; there = there };
+    primary = q';
+    moves = moved_one old mid new p (record { node = Primary q'; held = held }) cm tm cn tn;
+    alters = reads_alters cells q q' same is no_new whole;
+    states = ap (λ (x : PrimaryParts D). x.states) is;
   }

@@ -1,10 +1,12 @@
 -- What commits make of a node in its place.
-use Rattle.std.specs.Prelude.{ℕ, ◌≡◌, Bool, List, Option, Some, IsSomeAnd}
+use Rattle.std.specs.Prelude.{ℕ, ◌≡◌, Bool, List, Option, Some, None, IsSomeAnd}
+use Rattle.std.specs.Option.{option_map}
+use Rattle.nrt_base.specs.declared.numbers.Version.{Version}
 use Rattle.disk_model.specs.Disk.{Cells}
 use Rattle.segment_infos.specs.declared.infos.Infos.{Infos}
 use Rattle.commit_steps.specs.declared.stage.Stage.{Stage}
 use Rattle.commit_steps.specs.declared.stage.CommitBook.{CommitBook}
-use Rattle.commit_steps.specs.Book.{book_after, is_last_step}
+use Rattle.commit_steps.specs.Book.{commit_of, book_after, is_last_step}
 use Rattle.searcher_switch.specs.Node.{HoldsNoMore}
 use Rattle.searcher_switch.specs.Appearing.{AppearsOnly, IsNameInFlight}
 use Rattle.replica_node.specs.declared.parts.ReplicaParts.{ReplicaParts}
@@ -21,6 +23,15 @@ use Rattle.cluster_nodes.specs.JobPlaces.{MovesOne}
 -- the commit in flight at a node that runs
 abbrev pub HasStage : (Option Stage → Type 0) → Option CommitBook → Type 0
 HasStage P book = IsSomeAnd book (λ b. P b.stage)
+
+-- the version of the commit in flight at a node that runs
+abbrev pub committing : Option CommitBook → Option Version
+committing None = None
+committing (Some book) = option_map (λ stage. (commit_of stage).infos.version) book.stage
+
+-- the book is as before: the disk failed
+abbrev pub KeepsBook : Infos → CommitBook → CommitBook → Type 0
+KeepsBook infos was now = now ≡ was
 
 -- the next call of the directory was made for the commit in flight, the last one or not
 pub record StepsBook (done : Bool) (infos : Infos) (was now : CommitBook) : Type 0 where
@@ -62,3 +73,8 @@ module _ {D : Type 0} where
   -- a commit of the node in a place is so
   abbrev pub HasStageAt : (Option Stage → Type 0) → Option (NodePlace D) → Type 0
   HasStageAt P place = IsSomeAnd place (λ z. HasStage P (disk_of z.node).book)
+
+  -- the version of the commit in flight of the node in a place
+  abbrev pub committing_there : Option (NodePlace D) → Option Version
+  committing_there None = None
+  committing_there (Some place) = committing (disk_of place.node).book

@@ -1,5 +1,5 @@
 -- What the beginning and the end of a job make of the primary and of the replica.
-use Rattle.std.specs.Prelude.{ℕ, ◌≡◌, ◌≤◌, ◌<◌, ◌+◌, ◌^◌, ◌∷◌, ◌++◌, [], List, filter, not, nat_lt, false, Option, Some, None, IsSome, IsSomeAnd, IfSome, ⊤}
+use Rattle.std.specs.Prelude.{ℕ, ◌≡◌, ◌≤◌, ◌<◌, ◌+◌, ◌^◌, ◌∷◌, ◌++◌, [], List, filter, not, nat_lt, false, Option, Some, None, IsSome, IsSomeAnd, IfSome, ⊤, ◌⊎◌, true}
 use Rattle.std.specs.List.{All}
 use Rattle.nrt_base.specs.declared.doc.Doc.{Doc}
 use Rattle.disk_model.specs.Disk.{Name, Content, Cells, reads_of, same}
@@ -21,7 +21,7 @@ use Rattle.copy_state.specs.declared.state.CopyState.{CopyState}
 use Rattle.copy_state.specs.declared.meta.FileMetaData.{FileMetaData}
 use Rattle.copy_state.specs.States.{meta_names, meta_in}
 use Rattle.copy_job.specs.declared.copying.Part.{Part}
-use Rattle.copy_job.specs.Parts.{own_names}
+use Rattle.copy_job.specs.Parts.{own_names, placed_to}
 use Rattle.copy_job.specs.Jobs.{Job, reads_under}
 use Rattle.index_primary.specs.declared.parts.PrimaryParts.{PrimaryParts}
 use Rattle.index_primary.specs.declared.states.Out.{Out}
@@ -54,6 +54,15 @@ IsNextFile j file = IsNextToFetch j.copy file
 -- the name is the temporary one of a file that the job lacks
 abbrev pub IsTemporaryIn : PointJob → Name → Name → Type 0
 IsTemporaryIn j file q = (0 < times j.copy.missing file) × (j.copy.number < 2 ^ 64) × (q ≡ temp_name_of file j.copy.number)
+
+-- the name is that of a file that the job wants, or the temporary one of a file that it lacks
+abbrev pub IsLeftName : PointJob → Name → Type 0
+IsLeftName j q = IsWantedName (Some j) q ⊎ ((file : Name) × IsTemporaryIn j file q)
+
+-- where a part was to be written, it has the bytes of the source
+abbrev pub IsPartAt : (Name → Content) → Option Part → Type 0
+IsPartAt source None = ⊤
+IsPartAt source (Some part) = source part.name ≡ Some part.bytes
 
 -- a job that lacks a part of this name no more, and is otherwise the same but for its parts: none is gone, and the one that it lacked is one
 pub record HasTaken (name : Name) (j k : PointJob) : Type 0 where
@@ -150,3 +159,38 @@ module _ {D : Type 0} where
     pub sourced : (source : Name → Content) → source part.name ≡ Some part.bytes → IsSourced source cells old → IsSourced source cells new
     pub job : IfSome (running_point old.job) (λ j. IsSomeAnd (running_point new.job) (HasTaken part.name j))
     pub appears : IfSome (running_point old.job) (λ j. AppearsOnly (IsTemporaryIn j part.name) (cells old.dir) (cells new.dir))
+
+  -- A job was stopped, at most while this part was written, and its state was given back. It keeps its parts, of which some may have their own
+  -- names by now; the replica is as before otherwise, but for its directory and its counts, and for the metadata that it knows.
+  pub record StopsAt (cells : D → Cells) (part : Option Part) (j : PointJob) (p q : PrimaryParts D) (r s : ReplicaParts D) : Type 0 where
+    pub primary : AltersStates cells p q
+    pub states : q.states ≡ states_without (out_of j.copy.want) p.states
+    pub others : s ≡ record r { dir = s.dir; files = s.files; job = s.job; known = s.known }
+    pub whole : IsWholeReplica cells r → IsWholeReplica cells s
+    pub standing : AreStanding cells r → AreStanding cells s
+    pub sourced : (source : Name → Content) → IsPartAt source part → IsSourced source cells r → IsSourced source cells s
+    pub placed : ℕ
+    pub job : s.job ≡ Some (record j { copy = record j.copy { parts = placed_to placed j.copy.parts }; stopped = true })
+    pub appears : AppearsOnly (IsLeftName j) (cells r.dir) (cells s.dir)
+
+  -- so it is of the job that runs
+  abbrev pub StopsFor : (D → Cells) → Option Part → PrimaryParts D → PrimaryParts D → ReplicaParts D → ReplicaParts D → Type 0
+  StopsFor cells part p q r s = IfSome (running_point r.job) (λ j. StopsAt cells part j p q r s)
+
+  -- the primary's disk failed: nothing began, and the primary is as before, but for its directory and its counts
+  pub record BeginsNot (cells : D → Cells) (p q : PrimaryParts D) (r s : ReplicaParts D) : Type 0 where
+    pub primary : AltersStates cells p q
+    pub states : q.states ≡ p.states
+    pub replica : s ≡ r
+
+  -- a file was read at the primary, which is as before, but for its directory and its counts
+  pub record ReadsFor (cells : D → Cells) (name : Name) (bytes : List ℕ) (p q : PrimaryParts D) (r s : ReplicaParts D) : Type 0 where
+    pub primary : AltersStates cells p q
+    pub states : q.states ≡ p.states
+    pub there : (cells p.dir name).now ≡ Some bytes
+    pub replica : s ≡ r
+
+  -- a part was taken, and the primary is as before
+  pub record TakesFor (cells : D → Cells) (part : Part) (p q : PrimaryParts D) (r s : ReplicaParts D) : Type 0 where
+    pub takes : TakesPart cells part r s
+    pub primary : q ≡ p

@@ -17,7 +17,7 @@ use Rattle.cluster_nodes.specs.declared.nodes.NodePlace.{NodePlace}
 use Rattle.cluster_nodes.specs.Places.{place_of, IsSlot, HasPrimary}
 use Rattle.replica_node.specs.Jobs.{running_point}
 use Rattle.cluster_nodes.specs.Outs.{want_of}
-use Rattle.cluster_nodes.specs.JobChanges.{HasReplica, AltersStates, BeginsAt, FinishesAt, TakesPart}
+use Rattle.cluster_nodes.specs.JobChanges.{HasReplica, AltersStates, BeginsAt, FinishesAt, StopsFor, TakesPart}
 
 module _ {D : Type 0} where
   -- the primary stands in this place
@@ -82,6 +82,32 @@ module _ {D : Type 0} where
     pub replica : ReplicaParts D
     pub moves : MovesBoth p n (record { node = Primary primary; held = both.primary.held }) (record { node = Replica replica; held = both.replica.held }) old new
     pub begins : BeginsAt cells number both.primary.parts primary both.replica.parts replica
+
+  -- the primary is as before, but for its directory and its counts
+  pub record AltersIn (cells : D → Cells) (p : ℕ) (old new : List (Option (NodePlace D))) : Type 0 where
+    pub at : IsPrimaryAt old p
+    pub primary : PrimaryParts D
+    pub moves : MovesOne p (record { node = Primary primary; held = at.held }) old new
+    pub alters : AltersStates cells at.parts primary
+    pub states : primary.states ≡ at.parts.states
+
+  -- the job of the replica runs, and its copy state is out
+  pub record MayStop (q : PrimaryParts D) (r : ReplicaParts D) : Type 0 where
+    pub some : IsSome (running_point r.job)
+    pub out : IfSome (want_of r.job) (λ s. is_out s q.states ≡ true)
+
+  -- the same of what stands there
+  pub record CanStop (p n : ℕ) (places : List (Option (NodePlace D))) : Type 0 where
+    pub stand : StandThere p n places
+    pub may : HoldsOfBoth MayStop p n places
+
+  -- the job was stopped, at most while this part was written, and its state was given back
+  pub record StopsIn (cells : D → Cells) (part : Option Part) (p n : ℕ) (old new : List (Option (NodePlace D))) : Type 0 where
+    pub both : AreBoth old p n
+    pub primary : PrimaryParts D
+    pub replica : ReplicaParts D
+    pub moves : MovesBoth p n (record { node = Primary primary; held = both.primary.held }) (record { node = Replica replica; held = both.replica.held }) old new
+    pub stops : StopsFor cells part both.primary.parts primary both.replica.parts replica
 
   -- the job of the replica, which runs, can end: nothing is missing, and its files read as those of some documents
   pub record MayFinish (cells : D → Cells) (q : PrimaryParts D) (r : ReplicaParts D) : Type 0 where

@@ -11,3 +11,5 @@ pub mod Lives
 pub mod Outs
 pub mod Places
 pub mod Promoting
+pub mod Replanned
+pub mod Went

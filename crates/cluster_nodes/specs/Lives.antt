@@ -1,11 +1,13 @@
 -- What a crash, and a reopening, make of a node in its place.
-use Rattle.std.specs.Prelude.{ℕ, ◌≡◌, [], List, Option, Some, Vec, Contains, length}
+use Rattle.std.specs.Prelude.{ℕ, ◌≡◌, [], List, Option, Some, Vec, Contains, IsSomeAnd, length}
 use Rattle.std.specs.Global.{Global}
 use Rattle.std.specs.List.{flat_map}
+use Rattle.nrt_base.specs.Causes.{Rose}
 use Rattle.nrt_base.specs.declared.doc.Doc.{Doc}
 use Rattle.nrt_base.specs.declared.numbers.NodeNo.{NodeNo}
 use Rattle.nrt_base.specs.declared.numbers.Version.{Version}
 use Rattle.disk_model.specs.Disk.{Name, Content, Cells, HasCrashed, reads_of}
+use Rattle.disk_model.specs.Faults.{Plans, ended}
 use Rattle.segment_infos.specs.Files.{files_of_segment}
 use Rattle.seg_reader.specs.Stands.{StandsFor}
 use Rattle.replica_opening.specs.Opening.{FindsPoint, number_of_last}
@@ -35,6 +37,10 @@ module _ {D : Type 0} where
     pub here : place_of new n ≡ Some (record { node = Down dir; held = held })
     pub others : OthersOutlive cells primary n old new
 
+  -- the faults that were planned for the node's disk ended with it
+  abbrev pub EndsPlansIn : (D → Plans) → ℕ → List (Option (NodePlace D)) → List (Option (NodePlace D)) → Type 0
+  EndsPlansIn planned n old new = IsSomeAnd (place_of old n) (λ x. IsSomeAnd (place_of new n) (λ y. planned (dir_of y.node) ≡ ended (planned (dir_of x.node))))
+
   -- a replica opened on a directory: it stands at the point that this shows, and nothing was done with it
   pub record OpensOn (cells : D → Cells) (dir : D) (r : ReplicaParts D) : Type 0 where
     pub whole : IsWholeReplica cells r
@@ -53,3 +59,12 @@ module _ {D : Type 0} where
     pub opens : OpensOn cells (dir_of place.node) replica
     pub version : replica.searchers.point.version ≡ v
     pub moves : MovesOne n (record { node = Replica replica; held = place.held }) old new
+
+  -- the node stays down, as its disk failed: its directory shows what it showed, and what was held of it is held
+  pub record StaysDownIn (cells : D → Cells) (faults : D → ℕ) (n : ℕ) (old new : List (Option (NodePlace D))) : Type 0 where
+    pub place : NodePlace D
+    pub there : place_of old n ≡ Some place
+    pub dir : D
+    pub back : IsHandedBack (cells (dir_of place.node)) (cells dir)
+    pub rose : Rose (faults (dir_of place.node)) (faults dir)
+    pub moves : MovesOne n (record { node = Down dir; held = place.held }) old new

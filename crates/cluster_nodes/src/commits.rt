@@ -1,13 +1,17 @@
 //! Commits of nodes in their places.
 
-ghost use Rattle.std.specs.Prelude.{◌≡◌, None, OnOk, IfOk, IsSome, IsSomeAnd};
-ghost use Rattle.commit_steps.specs.Book.{HasBegun};
+ghost use Rattle.std.specs.Prelude.{◌≡◌, None, Some, OnOk, IfOk, IsSome, IsSomeAnd};
+ghost use Rattle.commit_steps.specs.Book.{commit_of, HasBegun};
 ghost use Rattle.cluster_nodes.specs.Places.{place_of, disk_of, IsSlot};
-ghost use Rattle.cluster_nodes.specs.Commits.{HasStage, HasStageAt, StepsBook, AltersCommits, CommitsIn};
+ghost use Rattle.cluster_nodes.specs.Commits.{HasStage, HasStageAt, committing, committing_there, KeepsBook, StepsBook, AltersCommits, CommitsIn};
+ghost use Rattle.cluster_nodes.specs.Went.{ByWent};
 
+use crate::failed::is_commit_failed;
 use crate::nodes::{Node, NodePlace, put, take};
+use crate::went::Went;
+use commit_steps::{CommitBook, Stage};
 use disk_model::Dir;
-use nrt_base::{NoMemory, NodeNo};
+use nrt_base::{NoMemory, NodeNo, Version};
 use searcher_switch::laws::holds_no_more;
 use std::alloc::{AllocError, Global};
 
@@ -36,27 +40,84 @@ fn begin_at<D: Dir + Drop>(alloc: Global, node: &mut Node<D>) -> Result<(), NoMe
     }
 }
 
-// Makes the next call of the directory for the commit in flight of a node, and answers whether the commit is made. It fails when out of
-// memory or when the disk fails.
-fn step_at<D: Dir + Drop>(alloc: Global, node: &mut Node<D>) -> Result<bool, NoMemory>
+// Makes the next call of the directory for the commit in flight of a node, and answers whether the commit is made, or that the
+// disk failed. It fails when out of memory.
+fn step_at<D: Dir + Drop>(alloc: Global, node: &mut Node<D>) -> Result<Went<bool>, NoMemory>
     requires { HasStage IsSome (disk_of node.old).book }
-    ensures { IfOk result (λ done. AltersCommits (StepsBook done) D.cells node.old node.new) }
+    ensures { IfOk result (ByWent
+        (λ done. AltersCommits (StepsBook done) D.cells node.old node.new)
+        (AltersCommits KeepsBook D.cells node.old node.new)) }
 {
     holds_no_more();
     match node {
         Node::Primary(primary) => {
-            let Ok(done) = primary.commit_step(alloc) else {
-                return Err(AllocError);
-            };
-            Ok(done)
+            match primary.commit_step(alloc) {
+                Ok(done) => Ok(Went::Done(done)),
+                Err(fault) => {
+                    is_commit_failed(fault)?;
+                    Ok(Went::Failed)
+                }
+            }
         }
         Node::Replica(replica) => {
-            let Ok(done) = replica.commit_step(alloc) else {
-                return Err(AllocError);
-            };
-            Ok(done)
+            match replica.commit_step(alloc) {
+                Ok(done) => Ok(Went::Done(done)),
+                Err(fault) => {
+                    is_commit_failed(fault)?;
+                    Ok(Went::Failed)
+                }
+            }
         }
         Node::Down(_) => unreachable!(),
+    }
+}
+
+// The version of a commit in flight.
+fn version_of(stage: &Stage) -> Version
+    ensures { result ≡ (commit_of stage.now).infos.version }
+{
+    match stage {
+        Stage::Begun(state) => state.0.commit.infos.version,
+        Stage::Synced(state) => state.0.commit.infos.version,
+        Stage::Written(state) => state.0.commit.infos.version,
+        Stage::Pending(state) => state.0.commit.infos.version,
+        Stage::Named(state) => state.0.commit.infos.version,
+        Stage::Renamed(state) => state.0.commit.infos.version,
+    }
+}
+
+// The version of the commit in flight in a book.
+fn version_in(book: &CommitBook) -> Option<Version>
+    ensures { result ≡ committing (Some book.now) }
+{
+    match &book.stage {
+        None => None,
+        Some(stage) => Some(version_of(stage)),
+    }
+}
+
+// The version of the commit in flight of a node.
+fn version_at<D: Dir + Drop>(node: &Node<D>) -> Option<Version>
+    ensures { result ≡ committing (disk_of node.now).book }
+{
+    match node {
+        Node::Primary(primary) => version_in(primary.commits()),
+        Node::Replica(replica) => version_in(replica.commits()),
+        Node::Down(_) => None,
+    }
+}
+
+/// The version of the commit in flight of the node in a place.
+pub fn committing_in<D: Dir + Drop>(
+    places: &Vec<Option<NodePlace<D>>>,
+    n: NodeNo,
+) -> Option<Version>
+    requires { IsSlot places.now.items n.0 }
+    ensures { result ≡ committing_there (place_of places.now.items n.0) }
+{
+    match &places[n.0 as usize - 1] {
+        Some(place) => version_at(&place.node),
+        None => None,
     }
 }
 
@@ -77,21 +138,24 @@ pub fn begin_commit_in<D: Dir + Drop>(
     Ok(())
 }
 
-/// Makes the next call of the directory for the commit in flight of the node in a place, and answers whether the commit is made.
-/// It fails when out of memory or when the disk fails.
+/// Makes the next call of the directory for the commit in flight of the node in a place, and answers whether the commit is made, or
+/// that the disk failed: the commits are then as before. It fails when out of memory.
 pub fn step_commit_in<D: Dir + Drop>(
     alloc: Global,
     places: &mut Vec<Option<NodePlace<D>>>,
     n: NodeNo,
-) -> Result<bool, NoMemory>
+) -> Result<Went<bool>, NoMemory>
     requires slot { IsSlot places.old.items n.0 }
     requires in_flight { HasStageAt IsSome (place_of places.old.items n.0) }
-    ensures { IfOk result (λ done.
-        CommitsIn (StepsBook done) D.cells n.0 places.old.items places.new.items) }
+    ensures { IfOk result (ByWent
+        (λ done. CommitsIn (StepsBook done) D.cells n.0 places.old.items places.new.items)
+        (CommitsIn KeepsBook D.cells n.0 places.old.items places.new.items)) }
 {
     let mut place = take(places, n);
     let stepped = step_at(alloc, &mut place.node);
     put(places, n, place);
-    let done = stepped?;
-    Ok(done)
+    match stepped? {
+        Went::Done(done) => Ok(Went::Done(done)),
+        Went::Failed => Ok(Went::Failed),
+    }
 }

@@ -1,17 +1,21 @@
 //! Crashes and reopenings of nodes in their places.
 
-ghost use Rattle.std.specs.Prelude.{◌≡◌, ◌≢◌, None, Some, OnOk, IfOk};
+ghost use Rattle.std.specs.Prelude.{◌≡◌, ◌≢◌, true, None, Some, OnOk, IfOk};
 ghost use Rattle.cluster_nodes.specs.declared.nodes.NodePlace.{NodePlace};
+ghost use Rattle.replica_opening.specs.Opening.{IsDiskFault};
 ghost use Rattle.replica_opening.specs.Opened.{IsSettledOn};
 ghost use Rattle.cluster_nodes.specs.Places.{place_of, dir_of, IsSlot};
 ghost use Rattle.cluster_nodes.specs.Ends.{CanEnd};
-ghost use Rattle.cluster_nodes.specs.Lives.{CrashesIn, OpensOn, ReopensIn};
+ghost use Rattle.cluster_nodes.specs.Lives.{CrashesIn, EndsPlansIn, ReopensIn, StaysDownIn};
+ghost use Rattle.cluster_nodes.specs.Went.{ByWent};
 
 use crate::ends::end_with;
 use crate::nodes::{Node, NodePlace, put, take};
+use crate::went::Went;
+use commit_steps::RecoverFault;
 use disk_model::{Dir, FaultDir};
 use nrt_base::{NoMemory, NodeNo, Version};
-use replica_node::Replica;
+use replica_node::{Refused, Replica, StartFault};
 use std::alloc::{AllocError, Global};
 
 // The directory of a node.
@@ -36,7 +40,9 @@ pub fn crash_in<D: FaultDir + Drop>(
     requires slot { IsSlot places.old.items n.0 }
     requires there { place_of places.old.items n.0 ≢ None }
     requires ends { CanEnd primary n.0 places.old.items }
-    ensures { OnOk result (CrashesIn D.cells primary n.0 places.old.items places.new.items) }
+    ensures crashes { OnOk result
+        (CrashesIn D.cells primary n.0 places.old.items places.new.items) }
+    ensures plans { OnOk result (EndsPlansIn D.planned n.0 places.old.items places.new.items) }
 {
     end_with(alloc, places, primary, n)?;
     let NodePlace {
@@ -52,42 +58,49 @@ pub fn crash_in<D: FaultDir + Drop>(
     crashed
 }
 
-// A replica on this directory. It fails when out of memory or when the disk fails.
-fn open_on<D: Dir + Drop>(alloc: Global, dir: D) -> Result<Replica<D>, NoMemory>
-    requires { IsSettledOn (D.cells dir) }
-    ensures { IfOk result (OpensOn D.cells dir) }
+// Whether the disk failed: else no memory was found, or the directory is none that opens.
+fn has_disk_failed(fault: StartFault) -> bool
+    ensures { result ≡ true → IsDiskFault fault }
 {
-    match Replica::start_from(alloc, dir) {
-        Ok(replica) => Ok(replica),
-        Err(_) => Err(AllocError),
+    match fault {
+        StartFault::Failed => true,
+        StartFault::Recover(RecoverFault::Failed) => true,
+        _ => false,
     }
 }
 
-/// Opens a replica on the directory of a node that is down, and answers the version that it searches. It fails when out of memory or when the
-/// disk fails.
+/// Opens a replica on the directory of a node that is down, and answers the version that it searches. Where its disk fails the node stays
+/// down, and its directory shows what it showed. It fails when out of memory.
 pub fn reopen_in<D: Dir + Drop>(
     alloc: Global,
     places: &mut Vec<Option<NodePlace<D>>>,
     n: NodeNo,
-) -> Result<Version, NoMemory>
+) -> Result<Went<Version>, NoMemory>
     requires slot { IsSlot places.old.items n.0 }
     requires there { place_of places.old.items n.0 ≢ None }
     requires settled { (place : NodePlace D) → place_of places.old.items n.0 ≡ Some place
         → IsSettledOn (D.cells (dir_of place.node)) }
-    ensures { IfOk result (λ v. ReopensIn D.cells n.0 v places.old.items places.new.items) }
+    ensures { IfOk result (ByWent
+        (λ v. ReopensIn D.cells n.0 v places.old.items places.new.items)
+        (StaysDownIn D.cells D.faults n.0 places.old.items places.new.items)) }
 {
     let NodePlace { node, held } = take(places, n);
     let dir = dir_in(node);
-    match open_on(alloc, dir) {
+    match Replica::start_from(alloc, dir) {
         Ok(replica) => {
             let version = replica.version();
             let node = Node::Replica(replica);
             put(places, n, NodePlace { node, held });
-            Ok(version)
+            Ok(Went::Done(version))
         }
-        Err(fault) => {
-            drop(held);
-            Err(fault)
+        Err(refused) => {
+            let Refused { dir, fault } = refused;
+            let node = Node::Down(dir);
+            put(places, n, NodePlace { node, held });
+            if !has_disk_failed(fault) {
+                return Err(AllocError);
+            }
+            Ok(Went::Failed)
         }
     }
 }

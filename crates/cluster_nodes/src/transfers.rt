@@ -4,12 +4,15 @@ ghost use Rattle.std.specs.Prelude.{ℕ, ◌≡◌, ◌==◌, Some, None, IfOk, 
 ghost use Rattle.copy_state.specs.Meta.{IsMetaOf};
 ghost use Rattle.cluster_nodes.specs.Places.{place_of, IsSlot, HasPrimary};
 ghost use Rattle.cluster_nodes.specs.JobChanges.{HasReplica, HasJob, HasNextFile};
-ghost use Rattle.cluster_nodes.specs.JobPlaces.{CanBegin, BeginsIn, CanFinish, FinishesIn, CanRead, ReadsIn, CanTake, TakesIn};
+ghost use Rattle.cluster_nodes.specs.JobPlaces.{AltersIn, CanBegin, BeginsIn, CanFinish, CanStop, StopsIn, FinishesIn, CanRead, ReadsIn, CanTake, TakesIn};
+ghost use Rattle.cluster_nodes.specs.Went.{ByWent};
 
+use crate::failed::is_failed;
 use crate::held::HeldTicket;
-use crate::jobs::{begin_job, finish_job, take_part};
+use crate::jobs::{begin_job, finish_job, read_for, stop_for, take_part};
 use crate::nodes::{Node, NodePlace, primary_in, put, take};
 use crate::states::next_lacking;
+use crate::went::Went;
 use bytes::Bytes;
 use copy_job::Part;
 use copy_state::FileMetaData;
@@ -18,7 +21,7 @@ use file_names::FileName;
 use index_primary::Primary;
 use nrt_base::{NoMemory, NodeNo};
 use replica_node::Replica;
-use std::alloc::{AllocError, Global};
+use std::alloc::Global;
 
 // The replica that is in this place.
 fn replica_in<D: Dir + Drop>(place: NodePlace<D>) -> (Replica<D>, Vec<HeldTicket>)
@@ -65,16 +68,18 @@ pub fn take_replica<D: Dir + Drop>(
     replica_in(take(places, n))
 }
 
-/// Begins a job of the primary's point at a replica, and answers its number.
+/// Begins a job of the primary's point at a replica, and answers its number. Where the primary's disk fails none begins.
 pub fn begin_in<D: Dir + Drop>(
     alloc: Global,
     places: &mut Vec<Option<NodePlace<D>>>,
     p: NodeNo,
     n: NodeNo,
-) -> Result<u64, NoMemory>
+) -> Result<Went<u64>, NoMemory>
     requires { CanBegin p.0 n.0 places.old.items }
-    ensures { IfOk result (λ number.
-        BeginsIn D.cells p.0 n.0 number places.old.items places.new.items) }
+    ensures count { length places.new.items ≡ length places.old.items }
+    ensures went { IfOk result (ByWent
+        (λ number. BeginsIn D.cells p.0 n.0 number places.old.items places.new.items)
+        (AltersIn D.cells p.0 places.old.items places.new.items)) }
 {
     let (mut primary, primary_held) = take_primary(places, p);
     let (mut replica, held) = take_replica(places, n);
@@ -114,15 +119,18 @@ fn put_both<D: Dir + Drop>(
     put(places, n, NodePlace { node, held });
 }
 
-/// Searches the point of a replica's job, of which nothing is missing. The job has ended.
+/// Searches the point of a replica's job, of which nothing is missing. The job has ended. Where the replica's disk fails the job is stopped.
 pub fn finish_in<D: Dir + Drop>(
     alloc: Global,
     places: &mut Vec<Option<NodePlace<D>>>,
     p: NodeNo,
     n: NodeNo,
-) -> Result<(), NoMemory>
+) -> Result<Went<()>, NoMemory>
     requires { CanFinish D.cells p.0 n.0 places.old.items }
-    ensures { OnOk result (FinishesIn D.cells p.0 n.0 places.old.items places.new.items) }
+    ensures count { length places.new.items ≡ length places.old.items }
+    ensures went { IfOk result (ByWent
+        (λ done. FinishesIn D.cells p.0 n.0 places.old.items places.new.items)
+        (StopsIn D.cells None p.0 n.0 places.old.items places.new.items)) }
 {
     let (mut primary, primary_held) = take_primary(places, p);
     let (mut replica, held) = take_replica(places, n);
@@ -131,40 +139,91 @@ pub fn finish_in<D: Dir + Drop>(
     finished
 }
 
+/// Stops the job of a replica, which runs.
+pub fn stop_job_in<D: Dir + Drop>(
+    alloc: Global,
+    places: &mut Vec<Option<NodePlace<D>>>,
+    p: NodeNo,
+    n: NodeNo,
+) -> Result<(), NoMemory>
+    requires { CanStop p.0 n.0 places.old.items }
+    ensures count { length places.new.items ≡ length places.old.items }
+    ensures stopped { OnOk result (StopsIn D.cells None p.0 n.0 places.old.items places.new.items) }
+{
+    let (mut primary, primary_held) = take_primary(places, p);
+    let (mut replica, held) = take_replica(places, n);
+    let stopped = stop_for(alloc, &mut primary, &mut replica);
+    put_both(places, p, n, primary, primary_held, replica, held);
+    stopped
+}
+
 /// The bytes of a file that a copy state which is out names.
 pub fn read_in<D: Dir + Drop>(
     places: &mut Vec<Option<NodePlace<D>>>,
     p: NodeNo,
     name: &FileName,
-) -> Result<Bytes, NoMemory>
+) -> Result<Went<Bytes>, NoMemory>
     requires { CanRead p.0 name.now places.old.items }
-    ensures { IfOk result (λ bytes.
-        ReadsIn D.cells p.0 name.now bytes places.old.items places.new.items) }
+    ensures count { length places.new.items ≡ length places.old.items }
+    ensures went { IfOk result (ByWent
+        (λ bytes. ReadsIn D.cells p.0 name.now bytes places.old.items places.new.items)
+        (AltersIn D.cells p.0 places.old.items places.new.items)) }
 {
     let (mut primary, held) = take_primary(places, p);
     let read = primary.source(name);
     let node = Node::Primary(primary);
     put(places, p, NodePlace { node, held });
     match read {
-        Ok(bytes) => Ok(bytes),
-        Err(_) => Err(AllocError),
+        Ok(bytes) => Ok(Went::Done(bytes)),
+        Err(fault) => {
+            is_failed(fault)?;
+            Ok(Went::Failed)
+        }
     }
 }
 
-/// Puts a part into the job of a replica, where the job lacks it still.
-pub fn take_in<D: Dir + Drop>(
+/// The same for the job of a replica, which runs. Where the primary's disk fails the job is stopped.
+pub fn read_for_in<D: Dir + Drop>(
+    alloc: Global,
     places: &mut Vec<Option<NodePlace<D>>>,
+    p: NodeNo,
+    n: NodeNo,
+    name: &FileName,
+) -> Result<Went<Bytes>, NoMemory>
+    requires read { CanRead p.0 name.now places.old.items }
+    requires stop { CanStop p.0 n.0 places.old.items }
+    ensures count { length places.new.items ≡ length places.old.items }
+    ensures went { IfOk result (ByWent
+        (λ bytes. ReadsIn D.cells p.0 name.now bytes places.old.items places.new.items)
+        (StopsIn D.cells None p.0 n.0 places.old.items places.new.items)) }
+{
+    let (mut primary, primary_held) = take_primary(places, p);
+    let (mut replica, held) = take_replica(places, n);
+    let read = read_for(alloc, &mut primary, &mut replica, name);
+    put_both(places, p, n, primary, primary_held, replica, held);
+    read
+}
+
+/// Puts a part into the job of a replica, where the job lacks it still. Where the replica's disk fails the job is stopped.
+pub fn take_in<D: Dir + Drop>(
+    alloc: Global,
+    places: &mut Vec<Option<NodePlace<D>>>,
+    p: NodeNo,
     n: NodeNo,
     part: Part,
-) -> Result<(), NoMemory>
+) -> Result<Went<()>, NoMemory>
     requires can { CanTake n.0 part places.old.items }
+    requires stop { CanStop p.0 n.0 places.old.items }
     requires meta { IsMetaOf part.bytes part.meta }
-    ensures { OnOk result (TakesIn D.cells n.0 part places.old.items places.new.items) }
+    ensures count { length places.new.items ≡ length places.old.items }
+    ensures went { IfOk result (ByWent
+        (λ done. TakesIn D.cells n.0 part places.old.items places.new.items)
+        (StopsIn D.cells (Some part) p.0 n.0 places.old.items places.new.items)) }
 {
+    let (mut primary, primary_held) = take_primary(places, p);
     let (mut replica, held) = take_replica(places, n);
-    let taken = take_part(&mut replica, part);
-    let node = Node::Replica(replica);
-    put(places, n, NodePlace { node, held });
+    let taken = take_part(alloc, &mut primary, &mut replica, part);
+    put_both(places, p, n, primary, primary_held, replica, held);
     taken
 }
 

@@ -1,30 +1,29 @@
 -- What the words of a past are behind faults of disks, and the rule of a publish that is refused for one.
-use Rattle.std.proofs.Common.{◌≡◌, ◌≢◌, ◌+◌, ◌==◌, ◌||◌, ◌&&◌, not, nat_lt, ℕ, Bool, true, false, true≢false, List, [], ◌∷◌, ◌⊎◌, inl, inr, Some, None, Option, refl, ap, ◌∙◌, sym, subst}
+use Rattle.std.proofs.Common.{◌≡◌, ◌≢◌, ◌==◌, ◌||◌, not, ℕ, Bool, true, false, List, inr, Some, None, Option, refl, ap, ◌∙◌, sym, subst}
+use Rattle.std.proofs.Math.Bool.{or-false}
 use Rattle.std.proofs.lemmas.Bool.{eq-eqb}
 use Rattle.nrt_base.specs.declared.numbers.At.{At}
 use Rattle.nrt_base.specs.declared.numbers.NodeNo.{NodeNo}
-use Rattle.history_rules.specs.declared.cause.FaultKind.{FaultKind}
-use Rattle.history_rules.specs.declared.cause.FaultKind.TheVariants.{Disk, Stop}
 use Rattle.history_rules.specs.declared.cause.Cause.TheVariants.{DiskFault}
 use Rattle.history_rules.specs.declared.entry.Event.{Event}
-use Rattle.history_rules.specs.declared.entry.Event.TheVariants.{Publishing, Fault, Refused}
+use Rattle.history_rules.specs.declared.entry.Event.TheVariants.{Publishing, Refused}
 use Rattle.history_rules.specs.Nodes.{Past, is_at, primary_of, newest_version, generation_of, primary_crashes}
-use Rattle.history_rules.specs.Lines.{publish_in_flight, start_entry, before_start}
-use Rattle.history_rules.specs.Faults.{has_fault, has_just_failed, fails_now, is_of_disk}
-use Rattle.history_tables.proofs.RowLemmas.{same_at_self}
+use Rattle.history_rules.specs.Lines.{publish_in_flight, before_start}
+use Rattle.history_rules.specs.Faults.{has_fault, fails_now, is_of_disk}
 use Rattle.history_rules.specs.Rules.{MayRefuseLine}
 use Rattle.history_rules.specs.Started.{is_node_of, is_source_of}
 use Rattle.history_rules.specs.Legal.{KeepsRule, IsLegalPast}
 use Rattle.history_book.specs.Log.{Log, printed}
 use Rattle.history_book.specs.Laws.{Flying}
-use Rattle.history_book.specs.Turns.{InTurn, EndsFlight}
+use Rattle.history_book.specs.Turns.{InTurn}
 use Rattle.history_book.proofs.ReignLaws.{start_kept, reigns_on}
 use Rattle.cluster_state.specs.Writes.{IsFlushed}
 use Rattle.cluster_state.proofs.Turning.{later_turn}
 use Rattle.segment_steps.specs.declared.flushing.FlushWork.{FlushWork}
-use Rattle.cluster_state.specs.Met.{fault_on, fault_if, with_met, has_risen}
+use Rattle.cluster_state.specs.Met.{with_met, has_risen}
 use Rattle.cluster_state.proofs.Faulted.{met_has}
 use Rattle.cluster_state.proofs.Planned.{HasMet, met_there}
+use Rattle.cluster_state.proofs.MetFails.{fails_behind}
 
 pub met_flight : (at : At) (olds news : List (ℕ × ℕ)) (log now : Log) → now ≡ with_met false at 1 olds news log → publish_in_flight (printed log) ≡ Some at → publish_in_flight (printed now) ≡ Some at
 met_flight at olds news log now is was =
@@ -48,49 +47,6 @@ met_flushed at work olds news log was =
 
 -- ---- the rule
 
-or_false : (b : Bool) → (b || false) ≡ b
-or_false true = refl
-or_false false = refl
-
--- the newest entry is a fault of a disk, where one rose
-fails_on : (at : At) (n : ℕ) (kind : FaultKind) → is_of_disk kind ≡ true → (b : Bool) (log : Log) → b ≡ true ⊎ (has_just_failed at (printed log) ≡ true) → has_just_failed at (printed (fault_on b false at n kind log)) ≡ true
-fails_on at n kind disk true log some = rw (disk, same_at_self at) refl
-fails_on at n kind disk false log (inl none) = absurd (true≢false (sym none))
-fails_on at n kind disk false log (inr was) = was
-
-still_fails : (at : At) (n : ℕ) (olds news : List (ℕ × ℕ)) (log : Log) → has_just_failed at (printed log) ≡ true → has_just_failed at (printed (with_met false at n olds news log)) ≡ true
-still_fails at n [] news log was = was
-still_fails at n (o ∷ olds) [] log was = was
-still_fails at n (o ∷ olds) (w ∷ news) log was =
-    still_fails at (n + 1) olds news (fault_if false at n Stop o.1 w.1 (fault_if false at n Disk o.0 w.0 log))
-    (fails_on at n Stop refl (nat_lt o.1 w.1) (fault_if false at n Disk o.0 w.0 log) (inr (fails_on at n Disk refl (nat_lt o.0 w.0) log (inr was))))
-
-risen_fails : (at : At) (p n : ℕ) (olds news : List (ℕ × ℕ)) (log : Log) → has_risen p n olds news ≡ true → has_just_failed at (printed (with_met false at n olds news log)) ≡ true
-risen_fails at p n [] news log none = absurd (true≢false (sym none))
-risen_fails at p n (o ∷ olds) [] log none = absurd (true≢false (sym none))
-risen_fails at p n (o ∷ olds) (w ∷ news) log risen =
-    by (p == n) (nat_lt o.0 w.0) (nat_lt o.1 w.1) refl refl risen (λ more. risen_fails at p (n + 1) olds news (fault_if false at n Stop o.1 w.1 (fault_if false at n Disk o.0 w.0 log)) more)
-  where
-    inner : Log
-    inner = fault_if false at n Stop o.1 w.1 (fault_if false at n Disk o.0 w.0 log)
-
-    by : (here disk stop : Bool) → nat_lt o.0 w.0 ≡ disk → nat_lt o.1 w.1 ≡ stop → ((here && (disk || stop)) || has_risen p (n + 1) olds news) ≡ true
-        → (has_risen p (n + 1) olds news ≡ true → has_just_failed at (printed (with_met false at (n + 1) olds news inner)) ≡ true) → has_just_failed at (printed (with_met false at (n + 1) olds news inner)) ≡ true
-    by true disk true d s some later = still_fails at (n + 1) olds news inner (fails_on at n Stop refl (nat_lt o.1 w.1) (fault_if false at n Disk o.0 w.0 log) (inl s))
-    by true true false d s some later =
-        still_fails at (n + 1) olds news inner (fails_on at n Stop refl (nat_lt o.1 w.1) (fault_if false at n Disk o.0 w.0 log) (inr (fails_on at n Disk refl (nat_lt o.0 w.0) log (inl d))))
-    by true false false d s some later = later some
-    by false disk stop d s some later = later some
-
--- so the line fails now
-just_fails_now : (at : At) (past : Past) → has_just_failed at past ≡ true → fails_now at past ≡ true
-just_fails_now at [] none = absurd (true≢false (sym none))
-just_fails_now at (e ∷ past) failed = step e.event failed
-  where
-    step : (x : Event) → has_just_failed at (record { at = e.at; event = x } ∷ past) ≡ true → fails_now at (record { at = e.at; event = x } ∷ past) ≡ true
-    step (Fault m kind) is = is
-    step x none = absurd (true≢false (sym none))
-
 -- a publish that met a fault of its primary's disk may be refused for it
 pub may_give_up : (size : ℕ) (past : Past) (at : At) (p : NodeNo) → IsLegalPast size past → Flying past at → primary_of past ≡ Some p → has_fault (λ m. p.0 == m) is_of_disk at past ≡ true → fails_now at past ≡ true → KeepsRule size past at (Refused DiskFault)
 may_give_up size past at p legal flies primary met fails =
@@ -107,14 +63,14 @@ may_give_up size past at p legal flies primary met fails =
     source = sym (reigns_on size at past legal runs flies.source).primary ∙ primary
 
     same : ◌≡◌ {A = ℕ → Bool} (λ m. p.0 == m) (λ m. is_node_of size (before_start at past) Publishing m || is_source_of (before_start at past) Publishing m)
-    same = λ i m. sym (ap (λ (o : Option NodeNo). is_at o m || false) source ∙ or_false (p.0 == m)) i
+    same = λ i m. sym (ap (λ (o : Option NodeNo). is_at o m || false) source ∙ or-false (p.0 == m)) i
 
 -- the same behind the faults, in the terms of a call
 pub gives_up : (at : At) (p : NodeNo) (olds news : List (ℕ × ℕ)) (log now : Log) (size : ℕ) → now ≡ with_met false at 1 olds news log → IsLegalPast size (printed now) → Flying (printed now) at → primary_of (printed log) ≡ Some p
     → has_risen p.0 1 olds news ≡ true → KeepsRule size (printed now) at (Refused DiskFault)
 gives_up at p olds news log now size is legal flies primary risen =
     may_give_up size (printed now) at p legal flies (met_primary at p olds news log now is primary) (subst (λ (l : Log). HasMet at p.0 l) (sym is) (met_there at p.0 1 olds news log risen))
-    (subst (λ (l : Log). fails_now at (printed l) ≡ true) (sym is) (just_fails_now at (printed (with_met false at 1 olds news log)) (risen_fails at p.0 1 olds news log risen)))
+    (subst (λ (l : Log). fails_now at (printed l) ≡ true) (sym is) (fails_behind at p.0 olds news log risen))
 
 -- and comes in its turn
 pub give_up_turn : (past : Past) (at : At) → Flying past at → InTurn past at (Refused DiskFault)

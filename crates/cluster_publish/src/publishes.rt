@@ -34,6 +34,7 @@ pub fn accept<D: FaultDir + Drop>(
     ensures ok { OnOk result (IsNow state.old state.new (shown at
         (by_refusal (without_primary (printed state.old.log))
         (Event.Accepted (accepted_count (printed state.old.log) + 1) op)) ∷ state.old.log)) }
+    ensures plans { OnOk result (state.new.rest.plans ≡ state.old.rest.plans) }
     ensures rest { OnOk result (KeepsRest state.old state.new) }
     ensures err { OnErr result (IsEnded state.old state.new) }
 {
@@ -56,6 +57,7 @@ pub fn accept_again<D: FaultDir + Drop>(
     requires primary { primary_of (printed state.old.log) ≢ None }
     ensures ok { OnOk result (IsNow state.old state.new (shown at
         (Event.Accepted (accepted_count (printed state.old.log) + 1) op) ∷ state.old.log)) }
+    ensures plans { OnOk result (state.new.rest.plans ≡ state.old.rest.plans) }
     ensures rest { OnOk result (KeepsRest state.old state.new) }
     ensures err { OnErr result (IsEnded state.old state.new) }
 {

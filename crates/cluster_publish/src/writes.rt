@@ -69,6 +69,7 @@ pub fn accept_at<D: FaultDir + Drop>(
     requires primary { primary_of (printed cluster.old.log) ≡ Some p }
     ensures ok { OnOk result (IsNow cluster.old cluster.new (shown at
         (Event.Accepted (accepted_count (printed cluster.old.log) + 1) op) ∷ cluster.old.log)) }
+    ensures plans { OnOk result (cluster.new.rest.plans ≡ cluster.old.rest.plans) }
     ensures rest { OnOk result (KeepsRest cluster.old cluster.new) }
     ensures err { OnErr result (IsEnded cluster.old cluster.new) }
 {

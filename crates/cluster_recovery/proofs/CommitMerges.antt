@@ -9,20 +9,18 @@ use Rattle.index_primary.specs.declared.states.Out.{Out}
 use Rattle.replica_node.specs.declared.parts.ReplicaParts.{ReplicaParts}
 use Rattle.history_rules.specs.declared.entry.Event.{Event}
 use Rattle.history_rules.specs.Nodes.{IsNode, primary_of}
-use Rattle.history_book.specs.Log.{printed, shown}
-use Rattle.merge_tasks.specs.Merging.{Sheet}
+use Rattle.history_book.specs.Log.{Log, printed, shown}
 use Rattle.merge_tasks.specs.Board.{Board}
 use Rattle.merge_tasks.specs.TaskLog.{leaves_merges}
+use Rattle.merge_tasks.proofs.TaskFrames.{tasks_still}
 use Rattle.cluster_nodes.specs.declared.held.HeldTicket.{HeldTicket}
 use Rattle.cluster_nodes.specs.declared.nodes.Node.{Node}
 use Rattle.cluster_nodes.specs.declared.nodes.Node.TheVariants.{Primary, Replica, Down}
 use Rattle.cluster_nodes.specs.declared.nodes.NodePlace.{NodePlace}
 use Rattle.cluster_nodes.specs.Outs.{want_of, want_at}
 use Rattle.cluster_nodes.specs.Commits.{AltersCommits, CommitsIn}
-use Rattle.cluster_state.specs.Run.{Run, Rest}
 use Rattle.cluster_state.specs.Merging.{KeepsMerges, KeepAllMerges, MergesStand}
-use Rattle.cluster_state.proofs.Ledgers.{asked_size}
-use Rattle.cluster_state.proofs.MergingStill.{primary_keeps, replica_keeps, one_keeps, stand_shown, stand_same}
+use Rattle.cluster_state.proofs.MergingStill.{primary_keeps, replica_keeps, one_keeps, stand_moved, vacant_left}
 
 module _ {D : Type 0} (cells : D → Cells) (Step : Infos → CommitBook → CommitBook → Type 0) where
   -- a node's job is as it was
@@ -46,16 +44,15 @@ module _ {D : Type 0} (cells : D → Cells) (Step : Infos → CommitBook → Com
   commit_leaves (Replica r) (Down e) alters jobs count low = absurd alters
   commit_leaves (Down d) y alters jobs count low = absurd alters
 
-  module _ (r : Run) (ended : Bool) (b0 b1 : Sheet) (board : Board) (old new : List (Option (NodePlace D))) (n : ℕ) {rest : Rest} (view : record { ended = ended; nodes = b0.nodes; log = b0.log; rest = rest } ≡ r)
-      (e1 : b1.log ≡ b0.log) (n1 : b1.nodes ≡ b0.nodes) (c1 : b1.cut ≡ b0.cut) (node : IsNode r.nodes n) (commits : CommitsIn Step cells n old new) (was : MergesStand b0.log b0.cut b0.nodes board old) where
-    all_leave : KeepAllMerges b0.nodes old new
-    all_leave = one_keeps b0.nodes board b0.log b0.cut old new n (record { node = commits.node; held = commits.place.held }) commits.place commits.moves (asked_size (λ (k : ℕ). IsNode k n) view refl node) commits.there
+  module _ (size : ℕ) (log : Log) (cut : Bool) (board : Board) (old new : List (Option (NodePlace D))) (n : ℕ) (node : IsNode size n) (commits : CommitsIn Step cells n old new) (was : MergesStand log cut size board old) where
+    all_leave : KeepAllMerges size old new
+    all_leave = one_keeps size board log cut old new n (record { node = commits.node; held = commits.place.held }) commits.place commits.moves node commits.there
         (commit_want commits.place.node commits.node commits.place.held commits.alters) (commit_leaves commits.place.node commits.node commits.alters) was
 
     -- merges stand where nothing was appended
-    pub commit_stands : MergesStand b1.log b1.cut b1.nodes board new
-    commit_stands = stand_same board old new b0 b1 e1 n1 c1 all_leave was
+    pub commit_stands : MergesStand log cut size board new
+    commit_stands = stand_moved log log cut size board old new (λ seg inputs is. is) was.tasks (λ none. none) all_leave was
 
     -- and where an entry was
-    pub commit_shown : (b2 : Sheet) (at : At) (e : Event) → b2.log ≡ shown at e ∷ b1.log → b2.nodes ≡ b1.nodes → b2.cut ≡ b1.cut → leaves_merges e (primary_of (printed b0.log)) ≡ true → MergesStand b2.log b2.cut b2.nodes board new
-    commit_shown b2 at e e2 n2 c2 leaves = stand_shown board old new b0 b1 b2 at e e1 n1 c1 e2 n2 c2 leaves all_leave was
+    pub commit_shown : (at : At) (e : Event) → leaves_merges e (primary_of (printed log)) ≡ true → MergesStand (shown at e ∷ log) cut size board new
+    commit_shown at e leaves = stand_moved log (shown at e ∷ log) cut size board old new (λ seg inputs is. is) (tasks_still size log board at e leaves was.tasks) (vacant_left e (primary_of (printed log)) leaves) all_leave was

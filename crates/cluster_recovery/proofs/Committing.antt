@@ -1,8 +1,10 @@
 -- What a commit that begins, or makes a call of the directory, leaves of its node and of the others.
 use Rattle.std.proofs.Common.{◌≡◌, ◌≢◌, ◌≤◌, ◌<◌, ◌==◌, ◌||◌, inl, inr, ℕ, Bool, true, false, true≢false, List, [], ◌∷◌, Some, None, Option, Vec, Global, zero, suc, refl, ap, ◌∙◌, sym, subst, arith, if◌then◌else◌}
-use Rattle.std.specs.Prelude.{IsSomeAnd, IsSome, not, is_some, Contains}
+use Rattle.std.specs.Prelude.{IsSomeAnd, IsSome, is_some, Contains}
 use Rattle.std.specs.List.{list_any}
-use Rattle.std.proofs.lemmas.Bool.{eq-eqb}
+use Rattle.std.specs.Option.{option_map}
+use Rattle.std.proofs.lemmas.Bool.{eq-eqb, eqb-true}
+use Rattle.std.proofs.lemmas.Option.{none-some}
 use Rattle.nrt_base.specs.declared.numbers.At.{At}
 use Rattle.nrt_base.specs.declared.numbers.NodeNo.{NodeNo}
 use Rattle.nrt_base.specs.declared.numbers.Version.{Version}
@@ -15,7 +17,8 @@ use Rattle.commit_steps.specs.declared.stage.Stage.{Stage}
 use Rattle.commit_steps.specs.declared.stage.Stage.TheVariants.{Begun, Synced, Written, Pending, Named, Renamed}
 use Rattle.commit_steps.specs.declared.stage.CommitBook.{CommitBook}
 use Rattle.commit_steps.specs.Book.{commit_of, book_by, is_last_step, IsBegun, HasBegun}
-use Rattle.searcher_switch.specs.Appearing.{IsNameInFlight}
+use Rattle.searcher_switch.specs.Appearing.{IsNameInFlight, AppearsOnly}
+use Rattle.searcher_switch.proofs.Appearing.{only_none}
 use Rattle.searcher_switch.specs.declared.open.Open.{Open}
 use Rattle.searcher_switch.specs.declared.open.SearchPoint.{SearchPoint}
 use Rattle.index_primary.specs.declared.parts.PrimaryParts.{PrimaryParts}
@@ -26,43 +29,41 @@ use Rattle.index_primary.specs.Primary.{loose_of, filled_of}
 use Rattle.replica_opening.specs.Known.{IsLasting}
 use Rattle.replica_node.specs.declared.job.PointJob.{PointJob}
 use Rattle.replica_node.specs.declared.parts.ReplicaParts.{ReplicaParts}
+use Rattle.history_rules.specs.declared.cause.Cause.TheVariants.{DiskFault}
 use Rattle.history_rules.specs.declared.entry.Event.{Event}
-use Rattle.history_rules.specs.declared.entry.Event.TheVariants.{Publishing, Committing, Committed}
+use Rattle.history_rules.specs.declared.entry.Event.TheVariants.{Publishing, Committing, Committed, Refused}
 use Rattle.history_rules.specs.Nodes.{Past, IsNode, is_at, primary_of, is_running, version_of}
 use Rattle.history_rules.specs.Lines.{start_entry, without_at, publish_in_flight, commit_in_flight}
-use Rattle.history_rules.specs.Commits.{reopenable_versions}
-use Rattle.history_rules.specs.Rules.{MayHaveName, MayCommit}
+use Rattle.history_rules.specs.Commits.{reopenable_versions, starts_commit, is_stuck}
+use Rattle.history_rules.specs.Rules.{MayHaveName}
 use Rattle.history_rules.specs.Legal.{KeepsRule, IsLegalPast}
-use Rattle.history_tables.proofs.RowLemmas.{same_at_self}
-use Rattle.history_book.specs.Laws.{IsFresh, may_find}
+use Rattle.history_tables.proofs.RowLemmas.{same_at_self, by_test}
+use Rattle.history_book.specs.Laws.{may_find}
 use Rattle.history_book.specs.Log.{Log, printed, shown}
-use Rattle.merge_tasks.specs.Merging.{Sheet}
 use Rattle.history_book.specs.Jobs.{job_at}
 use Rattle.history_book.specs.Turns.{InTurn, AreInTurn}
-use Rattle.history_book.proofs.FoundLaws.{commit_found}
 use Rattle.cluster_nodes.specs.declared.held.HeldTicket.{HeldTicket}
 use Rattle.cluster_nodes.specs.declared.nodes.Node.{Node}
 use Rattle.cluster_nodes.specs.declared.nodes.Node.TheVariants.{Primary, Replica, Down}
 use Rattle.cluster_nodes.specs.declared.nodes.NodePlace.{NodePlace}
 use Rattle.cluster_nodes.specs.Places.{Disk, place_of, disk_of, disk_at, tickets_of}
 use Rattle.cluster_nodes.specs.Outs.{want_of, want_at, jobs_like, states_like}
-use Rattle.cluster_nodes.specs.Commits.{HasStageAt, StepsBook, AltersCommits, CommitsIn}
+use Rattle.cluster_nodes.specs.Commits.{HasStageAt, StepsBook, AltersCommits, CommitsIn, HasStage, committing, committing_there, KeepsBook}
 use Rattle.cluster_nodes.proofs.OutCounts.{jobs_same}
-use Rattle.cluster_state.specs.Run.{Rest, Run, IsNow}
 use Rattle.cluster_state.specs.Lookups.{flush_out}
 use Rattle.cluster_state.specs.State.{IsPointAt, FlightShows, WritesAt, NodeShows, PlaceShows, Shows, HoldsTickets}
 use Rattle.cluster_state.specs.Files.{JobShows, NodeFiles, FilesShow}
-use Rattle.cluster_state.specs.FileChanges.{SameJob, CarriesNoMore}
-use Rattle.cluster_state.specs.Disks.{IsPastPoint, MayFindPoint, LastShows, CommitsPoint, StageShows, BookShows, DiskShows, DisksShow, PointsStay, CommitsStay}
+use Rattle.cluster_state.specs.FileChanges.{SameJob, CarriesNoMore, keeps_jobs, keeps_commits}
+use Rattle.cluster_state.specs.Moves.{moves, moves_tickets}
+use Rattle.cluster_state.specs.Disks.{IsPastPoint, MayFindPoint, LastShows, CommitsPoint, StageShows, BookShows, DiskShows, DisksShow, PointsStay, CommitsStay, StopsPoint}
 use Rattle.cluster_state.proofs.Points.{points_alone, points_shown, point_stays}
 use Rattle.cluster_state.proofs.Growing.{same, fewer, not_flying}
-use Rattle.cluster_state.proofs.Frames.{some_at, start_back, place_same, was, now_is}
+use Rattle.cluster_state.proofs.Frames.{some_at, start_back, place_same, was}
 use Rattle.cluster_state.proofs.JobFrames.{same_shown, job_stays}
 use Rattle.cluster_state.proofs.Drawn.{Grows, grows_none, grows_shown}
 use Rattle.cluster_state.proofs.Naming.{NodeSteps, means_more}
-use Rattle.cluster_state.proofs.Disks.{fresh_flights, commits_shown, commits_alone, disk_stays}
-use Rattle.cluster_state.proofs.FileFrames.{Both, both_of, one_each, wants_same, names_one, node_files, replica_apart, files_was, files_is}
-use Rattle.cluster_state.proofs.Turning.{past_has, fresh_turn}
+use Rattle.cluster_state.proofs.Disks.{commits_shown, commits_alone, disk_stays}
+use Rattle.cluster_state.proofs.FileFrames.{Both, both_of, one_each, wants_same, names_one, node_files, replica_apart}
 
 -- ---- one node
 
@@ -204,6 +205,82 @@ module _ {D : Type 0} (cells : D → Cells) (Step : Infos → CommitBook → Com
 
 -- ---- commits
 
+-- a commit stands there, and stays as it is
+pub record StaysStopped (infos : Infos) (was now : CommitBook) : Type 0 where
+  pub same : now ≡ was
+  pub stands : IsSome was.stage
+
+-- the last call was made for a commit of this version
+pub record MakesBook (v : Version) (infos : Infos) (was now : CommitBook) : Type 0 where
+  pub steps : StepsBook true infos was now
+  pub version : committing (Some was) ≡ Some v
+
+module _ (source : Name → Content) (past : Past) (at : At) (n : NodeNo) where
+  -- ---- it makes a call
+
+  stage_moves : (a : Option At) (s t : Stage) → commit_of t ≡ commit_of s → StageShows source past n.0 a (Some s) → StageShows source past n.0 a (Some t)
+  stage_moves None s t same was = subst (λ (c : Commit). StopsPoint source past n.0 c) (sym same) was
+  stage_moves (Some a) s t same was = subst (λ (c : Commit). CommitsPoint source past n.0 a c) (sym same) was
+
+  goes : (c : CommitBook) (o : Option Stage) → c.stage ≡ o → is_last_step o ≡ false → BookShows source past n.0 c → BookShows source past n.0 (book_by c o)
+  goes c None is last was = was
+  goes c (Some (Begun s)) is last was = record { last = was.last; has = was.has; flight = stage_moves (commit_in_flight n.0 past) (Begun s) (Synced (record { 0 = s.0 })) refl (subst (λ (o : Option Stage). StageShows source past n.0 (commit_in_flight n.0 past) o) is was.flight) }
+  goes c (Some (Synced s)) is last was = record { last = was.last; has = was.has; flight = stage_moves (commit_in_flight n.0 past) (Synced s) (Written (record { 0 = s.0 })) refl (subst (λ (o : Option Stage). StageShows source past n.0 (commit_in_flight n.0 past) o) is was.flight) }
+  goes c (Some (Written s)) is last was = record { last = was.last; has = was.has; flight = stage_moves (commit_in_flight n.0 past) (Written s) (Pending (record { 0 = s.0 })) refl (subst (λ (o : Option Stage). StageShows source past n.0 (commit_in_flight n.0 past) o) is was.flight) }
+  goes c (Some (Pending s)) is last was = record { last = was.last; has = was.has; flight = stage_moves (commit_in_flight n.0 past) (Pending s) (Named (record { 0 = s.0 })) refl (subst (λ (o : Option Stage). StageShows source past n.0 (commit_in_flight n.0 past) o) is was.flight) }
+  goes c (Some (Named s)) is last was = record { last = was.last; has = was.has; flight = stage_moves (commit_in_flight n.0 past) (Named s) (Renamed (record { 0 = s.0 })) refl (subst (λ (o : Option Stage). StageShows source past n.0 (commit_in_flight n.0 past) o) is was.flight) }
+  goes c (Some (Renamed s)) is last was = absurd (true≢false last)
+
+  pub book_goes : (infos : Infos) (c d : CommitBook) → StepsBook false infos c d → BookShows source past n.0 c → BookShows source past n.0 d
+  book_goes infos c d steps was = subst (λ (b : CommitBook). BookShows source past n.0 b) (sym steps.after) (goes c c.stage refl (sym steps.ends) was)
+
+  module _ (flight : commit_in_flight n.0 past ≡ Some at) where
+    -- no line has it in flight any more, once this one has a reply
+    forgets : without_at at (commit_in_flight n.0 past) ≡ None
+    forgets = ap (without_at at) flight ∙ ap (λ (b : Bool). if b then None else Some at) (same_at_self at)
+
+    flying : (o : Option Stage) → StageShows source past n.0 (commit_in_flight n.0 past) o → StageShows source past n.0 (Some at) o
+    flying o was = subst (λ (a : Option At). StageShows source past n.0 a o) flight was
+
+    -- ---- the last call for one that was stopped, behind which the line's own begins
+
+    module _ (stuck : is_stuck n.0 past ≡ true) where
+      carried : (c : CommitBook) (o : Option Stage) → c.stage ≡ o → is_last_step o ≡ true → BookShows source past n.0 c → BookShows source past n.0 (book_by c o)
+      carried c None is last was = absurd (true≢false (sym last))
+      carried c (Some (Begun s)) is last was = absurd (true≢false (sym last))
+      carried c (Some (Synced s)) is last was = absurd (true≢false (sym last))
+      carried c (Some (Written s)) is last was = absurd (true≢false (sym last))
+      carried c (Some (Pending s)) is last was = absurd (true≢false (sym last))
+      carried c (Some (Named s)) is last was = absurd (true≢false (sym last))
+      carried c (Some (Renamed s)) is last was = record {
+        last = (flying (Some (Renamed s)) (subst (λ (o : Option Stage). StageShows source past n.0 (commit_in_flight n.0 past) o) is was.flight)).point;
+        has = λ has. refl;
+        flight = subst (λ (a : Option At). StageShows source past n.0 a None) (sym flight) stuck;
+      }
+
+      pub book_carried : (infos : Infos) (c d : CommitBook) → StepsBook true infos c d → BookShows source past n.0 c → BookShows source past n.0 d
+      book_carried infos c d steps was = subst (λ (b : CommitBook). BookShows source past n.0 b) (sym steps.after) (carried c c.stage refl (sym steps.ends) was)
+
+      stage_owns : (number : ℕ) (infos : Infos) (o : Option Stage) → MayFindPoint source past n.0 infos → IsBegun number infos o → StageShows source past n.0 (Some at) o
+      stage_owns number infos (Some (Begun s)) point is = record {
+        point = subst (λ (i : Infos). MayFindPoint source past n.0 i) (sym is.1) point;
+        started = λ free m w begun'. absurd (true≢false (sym stuck ∙ free));
+      }
+      stage_owns number infos (Some (Synced s)) point is = absurd is
+      stage_owns number infos (Some (Written s)) point is = absurd is
+      stage_owns number infos (Some (Pending s)) point is = absurd is
+      stage_owns number infos (Some (Named s)) point is = absurd is
+      stage_owns number infos (Some (Renamed s)) point is = absurd is
+      stage_owns number infos None point is = absurd is
+
+      pub book_owns : may_find n.0 (version_of n.0 past) past ≡ true → (infos : Infos) (c d : CommitBook) → IsPastPoint source past infos → infos.version.0 ≡ version_of n.0 past → HasBegun infos c d → BookShows source past n.0 c → BookShows source past n.0 d
+      book_owns found infos c d point version begins was = record {
+        last = subst (λ (o : Option Commit). LastShows source past n.0 o) (sym begins.last) was.last;
+        has = λ has. ap is_some begins.last ∙ was.has has;
+        flight = subst (λ (a : Option At). StageShows source past n.0 a d.stage) (sym flight)
+            (stage_owns c.next infos d.stage (record { point = point; found = ap (λ (k : ℕ). may_find n.0 k past) version ∙ found }) begins.begun);
+      }
+
 module _ (source : Name → Content) (size : ℕ) (past : Past) (at : At) (n : NodeNo) (v : Version) (legal : IsLegalPast size past) where
   abbrev begun : Past
   begun = record { at = at; event = Committing n v } ∷ past
@@ -240,7 +317,7 @@ module _ (source : Name → Content) (size : ℕ) (past : Past) (at : At) (n : N
     commit_begun : (infos : Infos) → IsPastPoint source past infos → infos.version.0 ≡ v.0 → (c : Commit) → c.infos ≡ infos → CommitsPoint source begun n.0 at c
     commit_begun infos point version c is = record {
       point = subst (λ (i : Infos). MayFindPoint source begun n.0 i) (sym is) (record { point = point_begun infos point; found = its_version infos.version.0 version });
-      started = λ m w begun'. ap (λ (i : Infos). i.version.0) is ∙ (version ∙ starts_so m w begun');
+      started = λ free m w begun'. ap (λ (i : Infos). i.version.0) is ∙ (version ∙ starts_so m w begun');
     }
 
     stage_begun : (number : ℕ) (infos : Infos) (o : Option Stage) → IsPastPoint source past infos → infos.version.0 ≡ v.0 → IsBegun number infos o → StageShows source begun n.0 (Some at) o
@@ -252,58 +329,91 @@ module _ (source : Name → Content) (size : ℕ) (past : Past) (at : At) (n : N
     stage_begun number infos (Some (Renamed s)) point version is = absurd is
     stage_begun number infos None point version is = absurd is
 
+    -- it is in flight from now on
+    flies_begun : commit_in_flight n.0 begun ≡ Some at
+    flies_begun = ap (λ (b : Bool). if b then Some at else commit_in_flight n.0 past) (eq-eqb n.0 n.0 refl)
+
     pub book_begins : (infos : Infos) (c d : CommitBook) → IsPastPoint source past infos → infos.version.0 ≡ v.0 → HasBegun infos c d → BookShows source past n.0 c → BookShows source begun n.0 d
     book_begins infos c d point version begins was = record {
       last = subst (λ (o : Option Commit). LastShows source begun n.0 o) (sym begins.last) (last_begun c.last was.last);
       has = λ has. ap is_some begins.last ∙ was.has has;
-      flight = subst (λ (a : Option At). StageShows source begun n.0 a d.stage) (sym (ap (λ (b : Bool). if b then Some at else commit_in_flight n.0 past) (eq-eqb n.0 n.0 refl))) (stage_begun c.next infos d.stage point version begins.begun);
+      flight = subst (λ (a : Option At). StageShows source begun n.0 a d.stage) (sym flies_begun) (stage_begun c.next infos d.stage point version begins.begun);
     }
 
-  -- ---- it makes a call
-
-  stage_moves : (a : Option At) (s t : Stage) → commit_of t ≡ commit_of s → StageShows source past n.0 a (Some s) → StageShows source past n.0 a (Some t)
-  stage_moves None s t same was = absurd was
-  stage_moves (Some a) s t same was = subst (λ (c : Commit). CommitsPoint source past n.0 a c) (sym same) was
-
-  goes : (c : CommitBook) (o : Option Stage) → c.stage ≡ o → is_last_step o ≡ false → BookShows source past n.0 c → BookShows source past n.0 (book_by c o)
-  goes c None is last was = was
-  goes c (Some (Begun s)) is last was = record { last = was.last; has = was.has; flight = stage_moves (commit_in_flight n.0 past) (Begun s) (Synced (record { 0 = s.0 })) refl (subst (λ (o : Option Stage). StageShows source past n.0 (commit_in_flight n.0 past) o) is was.flight) }
-  goes c (Some (Synced s)) is last was = record { last = was.last; has = was.has; flight = stage_moves (commit_in_flight n.0 past) (Synced s) (Written (record { 0 = s.0 })) refl (subst (λ (o : Option Stage). StageShows source past n.0 (commit_in_flight n.0 past) o) is was.flight) }
-  goes c (Some (Written s)) is last was = record { last = was.last; has = was.has; flight = stage_moves (commit_in_flight n.0 past) (Written s) (Pending (record { 0 = s.0 })) refl (subst (λ (o : Option Stage). StageShows source past n.0 (commit_in_flight n.0 past) o) is was.flight) }
-  goes c (Some (Pending s)) is last was = record { last = was.last; has = was.has; flight = stage_moves (commit_in_flight n.0 past) (Pending s) (Named (record { 0 = s.0 })) refl (subst (λ (o : Option Stage). StageShows source past n.0 (commit_in_flight n.0 past) o) is was.flight) }
-  goes c (Some (Named s)) is last was = record { last = was.last; has = was.has; flight = stage_moves (commit_in_flight n.0 past) (Named s) (Renamed (record { 0 = s.0 })) refl (subst (λ (o : Option Stage). StageShows source past n.0 (commit_in_flight n.0 past) o) is was.flight) }
-  goes c (Some (Renamed s)) is last was = absurd (true≢false last)
-
-  pub book_goes : (infos : Infos) (c d : CommitBook) → StepsBook false infos c d → BookShows source past n.0 c → BookShows source past n.0 d
-  book_goes infos c d steps was = subst (λ (b : CommitBook). BookShows source past n.0 b) (sym steps.after) (goes c c.stage refl (sym steps.ends) was)
-
-  -- ---- its last call
-
-  module _ (rule : KeepsRule size past at (Committed n v)) (flight : commit_in_flight n.0 past ≡ Some at) (started : start_entry at past ≡ Some (Committing n v)) where
-    only_its : (k : ℕ) → k ≡ v.0 → may_find n.0 k made ≡ true
-    only_its k is = ap (λ (b : Bool). list_any (λ w. w == k) (if b then v.0 ∷ [] else reopenable_versions n.0 past)) (eq-eqb n.0 n.0 refl) ∙ ap (λ (b : Bool). b || false) (eq-eqb v.0 k (sym is))
-
-    last_made : (c : Commit) → CommitsPoint source past n.0 at c → MayFindPoint source made n.0 c.infos
-    last_made c was = record {
-      point = point_stays source past made c.infos (points_shown size past at (Committed n v) legal rule) was.point.point;
-      found = only_its c.infos.version.0 (was.started n v started);
+    -- where an older one was stopped, that one goes on
+    carries_stage : (o : Option Stage) → IsSome o → StageShows source past n.0 None o → StageShows source begun n.0 (Some at) o
+    carries_stage None some was = absurd (true≢false (sym some))
+    carries_stage (Some s) some was = record {
+      point = record { point = point_begun (commit_of s).infos was.point.point; found = found_begun (commit_of s).infos.version.0 was.point.found };
+      started = λ free m w begun'. absurd (true≢false (sym was.stuck ∙ free));
     }
 
-    makes : (c : CommitBook) (o : Option Stage) → c.stage ≡ o → is_last_step o ≡ true → BookShows source past n.0 c → BookShows source made n.0 (book_by c o)
-    makes c None is last was = absurd (true≢false (sym last))
-    makes c (Some (Begun s)) is last was = absurd (true≢false (sym last))
-    makes c (Some (Synced s)) is last was = absurd (true≢false (sym last))
-    makes c (Some (Written s)) is last was = absurd (true≢false (sym last))
-    makes c (Some (Pending s)) is last was = absurd (true≢false (sym last))
-    makes c (Some (Named s)) is last was = absurd (true≢false (sym last))
-    makes c (Some (Renamed s)) is last was = record {
-      last = last_made s.0.commit (subst (λ (z : Option At × Option Stage). StageShows source past n.0 z.0 z.1) (λ i. (flight i, is i)) was.flight);
-      has = λ has. refl;
-      flight = subst (λ (a : Option At). StageShows source made n.0 a None) (sym (ap (without_at at) flight ∙ ap (λ (b : Bool). if b then None else Some at) (same_at_self at))) tt;
-    }
+    pub book_carries : commit_in_flight n.0 past ≡ None → (infos : Infos) (c d : CommitBook) → StaysStopped infos c d → BookShows source past n.0 c → BookShows source begun n.0 d
+    book_carries none infos c d stays was = subst (λ (b : CommitBook). BookShows source begun n.0 b) (sym stays.same) (record {
+      last = last_begun c.last was.last;
+      has = λ has. was.has has;
+      flight = subst (λ (a : Option At). StageShows source begun n.0 a c.stage) (sym flies_begun) (carries_stage c.stage stays.stands (subst (λ (a : Option At). StageShows source past n.0 a c.stage) none was.flight));
+    })
 
-    pub book_made : (infos : Infos) (c d : CommitBook) → StepsBook true infos c d → BookShows source past n.0 c → BookShows source made n.0 d
-    book_made infos c d steps was = subst (λ (b : CommitBook). BookShows source made n.0 b) (sym steps.after) (makes c c.stage refl (sym steps.ends) was)
+  -- ---- its disk fails
+
+  module _ (flight : commit_in_flight n.0 past ≡ Some at) where
+    module _ (rule : KeepsRule size past at (Refused DiskFault)) (started : start_entry at past ≡ Some (Committing n v)) where
+      abbrev refused : Past
+      refused = record { at = at; event = Refused DiskFault } ∷ past
+
+      stuck_now : is_stuck n.0 refused ≡ true
+      stuck_now = ap (λ (o : Option Event). starts_commit n.0 o || is_stuck n.0 past) started ∙ ap (λ (b : Bool). b || is_stuck n.0 past) (eq-eqb n.0 n.0 refl)
+
+      found_refused : (infos : Infos) → MayFindPoint source past n.0 infos → MayFindPoint source refused n.0 infos
+      found_refused infos was = record { point = point_stays source past refused infos (points_shown size past at (Refused DiskFault) legal rule) was.point; found = was.found }
+
+      last_refused : (o : Option Commit) → LastShows source past n.0 o → LastShows source refused n.0 o
+      last_refused None was = was
+      last_refused (Some c) was = found_refused c.infos was
+
+      stage_stops : (o : Option Stage) → StageShows source past n.0 (Some at) o → StageShows source refused n.0 None o
+      stage_stops None was = tt
+      stage_stops (Some s) was = record { point = found_refused (commit_of s).infos was.point; stuck = stuck_now }
+
+      pub book_stops : (infos : Infos) (c d : CommitBook) → KeepsBook infos c d → BookShows source past n.0 c → BookShows source refused n.0 d
+      book_stops infos c d same was = subst (λ (b : CommitBook). BookShows source refused n.0 b) (sym same) (record {
+        last = last_refused c.last was.last;
+        has = λ has. was.has has;
+        flight = subst (λ (a : Option At). StageShows source refused n.0 a c.stage) (sym (forgets source past at n flight)) (stage_stops c.stage (flying source past at n flight c.stage was.flight));
+      })
+
+    -- ---- its last call
+
+    module _ (rule : KeepsRule size past at (Committed n v)) where
+      only_its : (k : ℕ) → k ≡ v.0 → may_find n.0 k made ≡ true
+      only_its k is = ap (λ (b : Bool). list_any (λ w. w == k) (if b then v.0 ∷ [] else reopenable_versions n.0 past)) (eq-eqb n.0 n.0 refl) ∙ ap (λ (b : Bool). b || false) (eq-eqb v.0 k (sym is))
+
+      last_made : (c : Commit) → c.infos.version.0 ≡ v.0 → CommitsPoint source past n.0 at c → MayFindPoint source made n.0 c.infos
+      last_made c version was = record {
+        point = point_stays source past made c.infos (points_shown size past at (Committed n v) legal rule) was.point.point;
+        found = only_its c.infos.version.0 version;
+      }
+
+      makes : (c : CommitBook) (o : Option Stage) → c.stage ≡ o → is_last_step o ≡ true → committing (Some c) ≡ Some v → BookShows source past n.0 c → BookShows source made n.0 (book_by c o)
+      makes c None is last version was = absurd (true≢false (sym last))
+      makes c (Some (Begun s)) is last version was = absurd (true≢false (sym last))
+      makes c (Some (Synced s)) is last version was = absurd (true≢false (sym last))
+      makes c (Some (Written s)) is last version was = absurd (true≢false (sym last))
+      makes c (Some (Pending s)) is last version was = absurd (true≢false (sym last))
+      makes c (Some (Named s)) is last version was = absurd (true≢false (sym last))
+      makes c (Some (Renamed s)) is last version was = record {
+        last = last_made s.0.commit (version_is (sym (ap (λ (o : Option Stage). option_map (λ (t : Stage). (commit_of t).infos.version) o) is) ∙ version))
+            (flying source past at n flight (Some (Renamed s)) (subst (λ (o : Option Stage). StageShows source past n.0 (commit_in_flight n.0 past) o) is was.flight));
+        has = λ has. refl;
+        flight = subst (λ (a : Option At). StageShows source made n.0 a None) (sym (forgets source past at n flight)) tt;
+      }
+        where
+          version_is : Some s.0.commit.infos.version ≡ Some v → s.0.commit.infos.version.0 ≡ v.0
+          version_is both = let is : s.0.commit.infos.version ≡ v = cc in ap (λ (u : Version). u.0) is
+
+      pub book_made : (infos : Infos) (c d : CommitBook) → MakesBook v infos c d → BookShows source past n.0 c → BookShows source made n.0 d
+      book_made infos c d makes_it was = subst (λ (b : CommitBook). BookShows source made n.0 b) (sym makes_it.steps.after) (makes c c.stage refl (sym makes_it.steps.ends) makes_it.version was)
 
 -- ---- all nodes
 
@@ -367,158 +477,131 @@ module _ {D : Type 0} (cells : D → Cells) where
       carried = λ q bytes out. files.carried q bytes (no_more q bytes out);
     }
 
+  -- ---- a call at a log that stays, and one with an entry
+
+  module _ (Step : Infos → CommitBook → CommitBook → Type 0) (size : ℕ) (log : Log) (old new : List (Option (NodePlace D))) (n : ℕ) (b : CommitsIn Step cells n old new) (node : IsNode size n)
+      (shows : Shows cells log size old) (files : FilesShow cells log size old) where
+    -- the node's book shows what the log then tells
+    abbrev BookGoes : Log → Type 0
+    BookGoes now = (infos : Infos) (c d : CommitBook) → IsPastPoint files.source (printed log) infos → infos.version.0 ≡ version_of n (printed log) → Step infos c d → BookShows files.source (printed log) n c → BookShows files.source (printed now) n d
+
+    pub quiet_stands : BookGoes log → Shows cells log size new × FilesShow cells log size new
+    quiet_stands book =
+        let places = λ (m : ℕ) (z : NodePlace D) (has : PlaceShows cells log m z). has in
+        let stay = λ (m : ℕ) (apart : (n == m) ≡ false). commits_alone (printed log) m in
+        let jobs = λ (m : ℕ) (other : is_at (primary_of (printed log)) m ≡ false). job_stays log m in (
+          commit_shows Step size log log old new n b node shows files (grows_none (printed log)) jobs (points_alone (printed log)) stay places (λ a none. shows.handed a none) book,
+          commit_files Step size log log old new n b node shows files (grows_none (printed log)) jobs (points_alone (printed log)) stay places (λ a none. shows.handed a none) book (λ q bytes out. out),
+        )
+
+    module _ (at : At) (e : Event) (legal : IsLegalPast size (printed log)) (turns : AreInTurn (printed log)) (rule : KeepsRule size (printed log) at e) (turn : InTurn (printed log) at e)
+        (line : start_entry at (printed log) ≢ Some Publishing) (elsewhere : (m : ℕ) → (n == m) ≡ false → commit_in_flight m (printed log) ≢ Some at) where
+      pub entry_stands : ((m : ℕ) → moves e (primary_of (printed log)) m ≡ false) → ((m : ℕ) → moves_tickets e m ≡ false) → ((m : ℕ) → keeps_jobs e m ≡ true) → ((m : ℕ) → (n == m) ≡ false → keeps_commits e m ≡ true)
+          → BookGoes (shown at e ∷ log) → Shows cells (shown at e ∷ log) size new × FilesShow cells (shown at e ∷ log) size new
+      entry_stands still apart jobs_kept commits book =
+          let places = λ (m : ℕ) (z : NodePlace D) (has : PlaceShows cells log m z). place_same cells log (shown at e ∷ log) m z
+          (same size m (printed log) at e legal turns rule (λ here. not_flying size (printed log) at legal turns line) (still m))
+          (fewer (printed log) at e m (apart m)) (λ a h is. is) has in
+          let stay = λ (m : ℕ) (other : (n == m) ≡ false). commits_shown (printed log) at m size e legal turns rule turn (commits m other) (elsewhere m other) in
+          let jobs = λ (m : ℕ) (other : is_at (primary_of (printed log)) m ≡ false). same_shown size log at m legal turns other e rule turn (jobs_kept m) in
+          let grows = grows_shown size (printed log) at e legal rule in
+          let handed = λ (a : At) (none : start_entry a (printed (shown at e ∷ log)) ≡ None). shows.handed a (start_back a (record { at = at; event = e }) (printed log) none) in (
+            commit_shows Step size log (shown at e ∷ log) old new n b node shows files grows jobs (points_shown size (printed log) at e legal rule) stay places handed book,
+            commit_files Step size log (shown at e ∷ log) old new n b node shows files grows jobs (points_shown size (printed log) at e legal rule) stay places handed book (λ q bytes out. out),
+          )
+
   -- ---- the commit in flight
 
-  stage_there : (source : Name → Content) (P : Option Stage → Type 0) (log : Log) (n : ℕ) (a : Option At) → commit_in_flight n (printed log) ≡ a → ((s : Option Stage) → StageShows source (printed log) n a s → P s) → is_running n (printed log) ≡ true
-      → (o : Option (NodePlace D)) → IsSomeAnd o (PlaceShows cells log n) → IsSomeAnd (disk_at o) (DiskShows source cells (printed log) n) → HasStageAt P o
-  stage_there source P log n a is has up None shows disk = absurd shows
-  stage_there source P log n a is has up (Some z) shows disk = node z.node shows.node_shows disk
+  -- one stands there, at a node that runs
+  pub stands_there : (v : Version) (o : Option (NodePlace D)) → committing_there o ≡ Some v → HasStageAt IsSome o
+  stands_there v None is = absurd (none-some v is)
+  stands_there v (Some z) is = by z.node is
     where
-      stage : (s : Option Stage) → StageShows source (printed log) n (commit_in_flight n (printed log)) s → P s
-      stage s was = has s (subst (λ (x : Option At). StageShows source (printed log) n x s) is was)
+      some : (s : Option Stage) → option_map (λ (t : Stage). (commit_of t).infos.version) s ≡ Some v → IsSome s
+      some None none = absurd (none-some v none)
+      some (Some s) there = refl
 
-      node : (x : Node D) → NodeShows cells log n x → DiskShows source cells (printed log) n (disk_of x) → HasStageAt P (Some (record { node = x; held = z.held }))
-      node (Primary p) is disk = stage p.commits.stage disk.book.flight
-      node (Replica r) is disk = stage r.commits.stage disk.book.flight
-      node (Down d) is disk = absurd (true≢false (sym up ∙ is.down))
+      by : (x : Node D) → committing (disk_of x).book ≡ Some v → HasStage IsSome (disk_of x).book
+      by (Primary p) there = some p.commits.stage there
+      by (Replica r) there = some r.commits.stage there
+      by (Down d) none = absurd (none-some v none)
 
-  no_stage : (source : Name → Content) (past : Past) (n : ℕ) (s : Option Stage) → StageShows source past n None s → s ≡ None
-  no_stage source past n None is = refl
-  no_stage source past n (Some s) is = absurd is
+  -- none stands there, at a node that runs
+  pub none_there : (log : Log) (n : ℕ) (o : Option (NodePlace D)) → IsSomeAnd o (PlaceShows cells log n) → is_running n (printed log) ≡ true → committing_there o ≡ None → HasStageAt (λ stage. stage ≡ None) o
+  none_there log n None shows up is = absurd shows
+  none_there log n (Some z) shows up is = by z.node shows.node_shows is
+    where
+      none : (s : Option Stage) → option_map (λ (t : Stage). (commit_of t).infos.version) s ≡ None → s ≡ None
+      none None is = refl
+      none (Some s) is = absurd (none-some _ (sym is))
 
-  a_stage : (source : Name → Content) (past : Past) (n : ℕ) (at : At) (s : Option Stage) → StageShows source past n (Some at) s → IsSome s
-  a_stage source past n at None is = absurd is
-  a_stage source past n at (Some s) is = refl
+      by : (x : Node D) → NodeShows cells log n x → committing (disk_of x).book ≡ None → HasStage (λ stage. stage ≡ None) (disk_of x).book
+      by (Primary p) shows is = none p.commits.stage is
+      by (Replica r) shows is = none r.commits.stage is
+      by (Down d) shows is = absurd (true≢false (sym up ∙ shows.down))
 
--- ---- in the terms of a call
+  -- behind the last call none stands there
+  pub none_left : (n : ℕ) (old new : List (Option (NodePlace D))) → CommitsIn (StepsBook true) cells n old new → HasStageAt (λ stage. stage ≡ None) (place_of new n)
+  none_left n old new b = subst (λ (o : Option (NodePlace D)). HasStageAt (λ stage. stage ≡ None) o) (sym there) (by b.place.node b.node b.alters)
+    where
+      there : place_of new n ≡ Some (record { node = b.node; held = b.place.held })
+      there = b.moves.there n ∙ ap (λ (t : Bool). if t then Some (record { node = b.node; held = b.place.held }) else place_of old n) (eq-eqb n n refl)
 
--- what the book tells of what a node searches
-pub version_at : (r : Run) (ended : Bool) (b0 : Sheet) (n : NodeNo) (v : ℕ) → {left : Rest} → record { ended = ended; nodes = b0.nodes; log = b0.log; rest = left } ≡ r → v ≡ version_of n.0 (printed b0.log) → v ≡ version_of n.0 (printed r.log)
-version_at r ended b0 n v view is = is ∙ ap (λ (x : Run). version_of n.0 (printed x.log)) view
+      made : (c : CommitBook) (o : Option Stage) → c.stage ≡ o → is_last_step o ≡ true → (book_by c o).stage ≡ None
+      made c None is last = is
+      made c (Some (Renamed s)) is last = refl
+      made c (Some (Begun s)) is last = absurd (true≢false (sym last))
+      made c (Some (Synced s)) is last = absurd (true≢false (sym last))
+      made c (Some (Written s)) is last = absurd (true≢false (sym last))
+      made c (Some (Pending s)) is last = absurd (true≢false (sym last))
+      made c (Some (Named s)) is last = absurd (true≢false (sym last))
 
--- and of a commit that ends
-pub may_at : (r : Run) (ended : Bool) (b0 : Sheet) (at : At) (n : NodeNo) (v : Version) → {left : Rest} → record { ended = ended; nodes = b0.nodes; log = b0.log; rest = left } ≡ r → MayCommit b0.nodes (printed b0.log) at n v → KeepsRule r.nodes (printed r.log) at (Committed n v)
-may_at r ended b0 at n v view may = subst (λ (x : Run). MayCommit x.nodes (printed x.log) at n v) view may
+      by : (x y : Node D) → AltersCommits (StepsBook true) cells x y → HasStage (λ stage. stage ≡ None) (disk_of y).book
+      by (Primary p) (Primary q) a = ap (λ (c : CommitBook). c.stage) a.1.after ∙ made p.commits p.commits.stage refl (sym a.1.ends)
+      by (Replica r) (Replica s) a = ap (λ (c : CommitBook). c.stage) a.1.after ∙ made r.commits r.commits.stage refl (sym a.1.ends)
+      by (Primary p) (Replica s) a = absurd a
+      by (Primary p) (Down e) a = absurd a
+      by (Replica r) (Primary q) a = absurd a
+      by (Replica r) (Down e) a = absurd a
+      by (Down d) y a = absurd a
 
-pub turn_at : (r : Run) (ended : Bool) (b0 b1 : Sheet) (at : At) (n : NodeNo) (v : Version) → {left : Rest} → record { ended = ended; nodes = b0.nodes; log = b0.log; rest = left } ≡ r → b1.log ≡ b0.log → commit_in_flight n.0 (printed r.log) ≡ Some at → InTurn (printed b1.log) at (Committed n v)
-turn_at r ended b0 b1 at n v view e1 flight = record { once = tt; flight = ap (λ (l : Log). commit_in_flight n.0 (printed l)) (e1 ∙ ap (λ (x : Run). x.log) view) ∙ flight }
+  -- the last call is one for a commit of the version that stood there
+  pub makes_in : (v : Version) (n : ℕ) (old new : List (Option (NodePlace D))) → committing_there (place_of old n) ≡ Some v → CommitsIn (StepsBook true) cells n old new → CommitsIn (MakesBook v) cells n old new
+  makes_in v n old new version b = record {
+    place = b.place;
+    there = b.there;
+    node = b.node;
+    moves = b.moves;
+    alters = by b.place.node b.node b.alters (sym (ap committing_there b.there) ∙ version);
+  }
+    where
+      by : (x y : Node D) → AltersCommits (StepsBook true) cells x y → committing (disk_of x).book ≡ Some v → AltersCommits (MakesBook v) cells x y
+      by (Primary p) (Primary q) a is = (record { others = a.0.others; whole = a.0.whole; stays = a.0.stays; no_more = a.0.no_more; appears = a.0.appears }, record { steps = a.1; version = is })
+      by (Replica r) (Replica s) a is = (record { others = a.0.others; whole = a.0.whole; standing = a.0.standing; sourced = a.0.sourced; appears = a.0.appears }, record { steps = a.1; version = is })
+      by (Primary p) (Replica s) a is = absurd a
+      by (Primary p) (Down e) a is = absurd a
+      by (Replica r) (Primary q) a is = absurd a
+      by (Replica r) (Down e) a is = absurd a
+      by (Down d) y a is = absurd a
 
-module _ {D : Type 0} (cells : D → Cells) (r : Run) (ended : Bool) (b0 : Sheet) (old : List (Option (NodePlace D))) (at : At) (n : NodeNo)
-    {left : Rest} (view : record { ended = ended; nodes = b0.nodes; log = b0.log; rest = left } ≡ r) (running : r.ended ≡ false) (pair : ended ≡ false → Shows cells b0.log b0.nodes old × FilesShow cells b0.log b0.nodes old)
-    (node : IsNode r.nodes n.0) (up : is_running n.0 (printed r.log) ≡ true) where
-  shows : Shows cells r.log r.nodes old
-  shows = was cells r ended b0.nodes b0.log old view running (λ e. (pair e).0)
+  -- a commit that was stopped stays where no call is made
+  pub stays_in : (log : Log) (size : ℕ) (v : Version) (n : ℕ) (old : List (Option (NodePlace D))) → Shows cells log size old → IsNode size n → committing_there (place_of old n) ≡ Some v → CommitsIn StaysStopped cells n old old
+  stays_in log size v n old shows node version = at_place (place_of old n) refl (shows.each n node) (stands_there v (place_of old n) version)
+    where
+      still : {names : Name → Type 0} (c : Cells) → AppearsOnly names c c
+      still {names = names} c = only_none names c c (record { each = λ name none. none })
 
-  files : FilesShow cells r.log r.nodes old
-  files = files_was cells r ended b0.nodes b0.log old view running (λ e. (pair e).1)
+      by : (x : Node D) → NodeShows cells log n x → HasStage IsSome (disk_of x).book → AltersCommits StaysStopped cells x x
+      by (Primary p) shows stands = (record { others = refl; whole = shows.whole; stays = record { held = λ name first second. refl }; no_more = λ was. record { each = λ name plain own none. none }; appears = still (cells p.dir) }, record { same = refl; stands = stands })
+      by (Replica r) shows stands = (record { others = refl; whole = shows.whole; standing = λ is. is; sourced = λ source is. is; appears = still (cells r.dir) }, record { same = refl; stands = stands })
+      by (Down d) shows stands = absurd stands
 
-  pub uncommitting_there : commit_in_flight n.0 (printed r.log) ≡ None → HasStageAt (λ stage. stage ≡ None) (place_of old n.0)
-  uncommitting_there none = stage_there cells files.source (λ stage. stage ≡ None) r.log n.0 None none (λ s is. no_stage cells files.source (printed r.log) n.0 s is) up (place_of old n.0) (shows.each n.0 node) (files.disks n.0 node)
-
-  pub committing_there : commit_in_flight n.0 (printed r.log) ≡ Some at → HasStageAt IsSome (place_of old n.0)
-  committing_there flight = stage_there cells files.source IsSome r.log n.0 (Some at) flight (λ s is. a_stage cells files.source (printed r.log) n.0 at s is) up (place_of old n.0) (shows.each n.0 node) (files.disks n.0 node)
-
-  module _ (v : Version) (legal : IsLegalPast b0.nodes (printed b0.log)) (turns : AreInTurn (printed b0.log)) where
-    legal_now : IsLegalPast r.nodes (printed r.log)
-    legal_now = subst (λ (x : Run). IsLegalPast x.nodes (printed x.log)) view legal
-
-    turns_now : AreInTurn (printed r.log)
-    turns_now = subst (λ (x : Run). AreInTurn (printed x.log)) view turns
-
-    log_is : (b1 b2 : Sheet) (e : Event) → b1.log ≡ b0.log → b2.log ≡ shown at e ∷ b1.log → b2.log ≡ shown at e ∷ r.log
-    log_is b1 b2 e e1 e2 = e2 ∙ ap (λ (l : Log). shown at e ∷ l) (e1 ∙ ap (λ (x : Run). x.log) view)
-
-    size_is : (b1 b2 : Sheet) → b1.nodes ≡ b0.nodes → b2.nodes ≡ b1.nodes → b2.nodes ≡ r.nodes
-    size_is b1 b2 n1 n2 = n2 ∙ (n1 ∙ ap (λ (x : Run). x.nodes) view)
-
-    -- a commit begins
-    pub may_begin_commit : IsFresh at (printed b0.log) → v.0 ≡ version_of n.0 (printed r.log) → commit_in_flight n.0 (printed r.log) ≡ None → KeepsRule r.nodes (printed r.log) at (Committing n v)
-    may_begin_commit fresh version none = record { node = node; running = up; searched = version; alone = rw none refl; spared = (past_has (IsFresh at) r ended b0 view fresh).spared }
-
-    pub begin_commit_path : (new : List (Option (NodePlace D))) → CommitsIn HasBegun cells n.0 old new → (b1 b2 : Sheet) → b1.log ≡ b0.log → b1.nodes ≡ b0.nodes → b2.log ≡ shown at (Committing n v) ∷ b1.log → b2.nodes ≡ b1.nodes
-        → IsFresh at (printed b0.log) → v.0 ≡ version_of n.0 (printed r.log) → commit_in_flight n.0 (printed r.log) ≡ None → Shows cells b2.log b2.nodes new × FilesShow cells b2.log b2.nodes new
-    begin_commit_path new b b1 b2 e1 n1 e2 n2 fresh version none =
-        let rule = may_begin_commit fresh version none in
-        let fresh_now : IsFresh at (printed r.log) = past_has (IsFresh at) r ended b0 view fresh in
-        let turn : InTurn (printed r.log) at (Committing n v) = fresh_turn (printed r.log) at (Committing n v) fresh_now tt in
-        let now : Log = shown at (Committing n v) ∷ r.log in
-        let places = λ (m : ℕ) (z : NodePlace D) (has : PlaceShows cells r.log m z). place_same cells r.log (shown at (Committing n v) ∷ r.log) m z
-        (same r.nodes m (printed r.log) at (Committing n v) legal_now turns_now rule (λ here. not_flying r.nodes (printed r.log) at legal_now turns_now (unstarted fresh_now)) refl)
-        (fewer (printed r.log) at (Committing n v) m refl) (λ a h is. is) has in
-        let stay = λ (m : ℕ) (apart : (n.0 == m) ≡ false). commits_shown (printed r.log) at m r.nodes (Committing n v) legal_now turns_now rule turn (ap not apart) (fresh_flights r.nodes (printed r.log) at legal_now turns_now fresh_now.begun m) in
-        let jobs = λ (m : ℕ) (other : is_at (primary_of (printed r.log)) m ≡ false). same_shown r.nodes r.log at m legal_now turns_now other (Committing n v) rule turn refl in
-        let book = λ (infos : Infos) (c d : CommitBook) (point : IsPastPoint files.source (printed r.log) infos) (is : infos.version.0 ≡ version_of n.0 (printed r.log)) (begins : HasBegun infos c d) (has : BookShows files.source (printed r.log) n.0 c).
-        book_begins files.source r.nodes (printed r.log) at n v legal_now rule infos c d point (is ∙ sym version) begins has in
-        let grows = grows_shown r.nodes (printed r.log) at (Committing n v) legal_now rule in
-        let handed = λ (a : At) (none : start_entry a (printed (shown at (Committing n v) ∷ r.log)) ≡ None). shows.handed a (start_back a (record { at = at; event = Committing n v }) (printed r.log) none) in (
-          now_is cells (shown at (Committing n v) ∷ r.log) b2.log r.nodes b2.nodes new (log_is b1 b2 (Committing n v) e1 e2) (size_is b1 b2 n1 n2)
-              (commit_shows cells HasBegun r.nodes r.log (shown at (Committing n v) ∷ r.log) old new n.0 b node shows files grows jobs (points_shown r.nodes (printed r.log) at (Committing n v) legal_now rule) stay places handed book),
-          files_is cells (shown at (Committing n v) ∷ r.log) b2.log r.nodes b2.nodes new (log_is b1 b2 (Committing n v) e1 e2) (size_is b1 b2 n1 n2)
-              (commit_files cells HasBegun r.nodes r.log (shown at (Committing n v) ∷ r.log) old new n.0 b node shows files grows jobs (points_shown r.nodes (printed r.log) at (Committing n v) legal_now rule) stay places handed book (λ q bytes out. out)),
-        )
-      where
-        unstarted : IsFresh at (printed r.log) → start_entry at (printed r.log) ≢ Some Publishing
-        unstarted fresh is = absurd (let both : None ≡ Some Publishing = sym fresh.begun ∙ is in cc)
-
-    -- a call that is not the last
-    go_path : (new : List (Option (NodePlace D))) → CommitsIn (StepsBook false) cells n.0 old new → (b1 : Sheet) → b1.log ≡ b0.log → b1.nodes ≡ b0.nodes → Shows cells b1.log b1.nodes new × FilesShow cells b1.log b1.nodes new
-    go_path new b b1 e1 n1 =
-        let log : b1.log ≡ r.log = e1 ∙ ap (λ (x : Run). x.log) view in
-        let size : b1.nodes ≡ r.nodes = n1 ∙ ap (λ (x : Run). x.nodes) view in
-        let book = λ (infos : Infos) (c d : CommitBook) (point : IsPastPoint files.source (printed r.log) infos) (is : infos.version.0 ≡ version_of n.0 (printed r.log)) (steps : StepsBook false infos c d) (has : BookShows files.source (printed r.log) n.0 c).
-        book_goes files.source r.nodes (printed r.log) at n v legal_now infos c d steps has in
-        let places = λ (m : ℕ) (z : NodePlace D) (has : PlaceShows cells r.log m z). has in
-        let stay = λ (m : ℕ) (apart : (n.0 == m) ≡ false). commits_alone (printed r.log) m in
-        let jobs = λ (m : ℕ) (other : is_at (primary_of (printed r.log)) m ≡ false). job_stays r.log m in (
-          now_is cells r.log b1.log r.nodes b1.nodes new log size
-              (commit_shows cells (StepsBook false) r.nodes r.log r.log old new n.0 b node shows files (grows_none (printed r.log)) jobs (points_alone (printed r.log)) stay places (λ a none. shows.handed a none) book),
-          files_is cells r.log b1.log r.nodes b1.nodes new log size
-              (commit_files cells (StepsBook false) r.nodes r.log r.log old new n.0 b node shows files (grows_none (printed r.log)) jobs (points_alone (printed r.log)) stay places (λ a none. shows.handed a none) book (λ q bytes out. out)),
-        )
-
-    pub go_commit_path : (done : Bool) → done ≡ false → (new : List (Option (NodePlace D))) → CommitsIn (StepsBook done) cells n.0 old new → (b1 : Sheet) → b1.log ≡ b0.log → b1.nodes ≡ b0.nodes → Shows cells b1.log b1.nodes new × FilesShow cells b1.log b1.nodes new
-    go_commit_path true is new b b1 e1 n1 = absurd (true≢false is)
-    go_commit_path false is new b b1 e1 n1 = go_path new b b1 e1 n1
-
-    -- the last call
-    end_path : (new : List (Option (NodePlace D))) → CommitsIn (StepsBook true) cells n.0 old new → (b1 b2 : Sheet) → b1.log ≡ b0.log → b1.nodes ≡ b0.nodes → b2.log ≡ shown at (Committed n v) ∷ b1.log → b2.nodes ≡ b1.nodes
-        → MayCommit b0.nodes (printed b0.log) at n v → commit_in_flight n.0 (printed r.log) ≡ Some at → start_entry at (printed r.log) ≡ Some (Committing n v) → Shows cells b2.log b2.nodes new × FilesShow cells b2.log b2.nodes new
-    end_path new b b1 b2 e1 n1 e2 n2 may flight started =
-        let rule : KeepsRule r.nodes (printed r.log) at (Committed n v) = subst (λ (x : Run). MayCommit x.nodes (printed x.log) at n v) view may in
-        let turn : InTurn (printed r.log) at (Committed n v) = record { once = tt; flight = flight } in
-        let places = λ (m : ℕ) (z : NodePlace D) (has : PlaceShows cells r.log m z). place_same cells r.log (shown at (Committed n v) ∷ r.log) m z
-        (same r.nodes m (printed r.log) at (Committed n v) legal_now turns_now rule (λ here. not_flying r.nodes (printed r.log) at legal_now turns_now (commits started)) refl)
-        (fewer (printed r.log) at (Committed n v) m refl) (λ a h is. is) has in
-        let stay = λ (m : ℕ) (apart : (n.0 == m) ≡ false). commits_shown (printed r.log) at m r.nodes (Committed n v) legal_now turns_now rule turn (ap not apart) (elsewhere m apart started) in
-        let jobs = λ (m : ℕ) (other : is_at (primary_of (printed r.log)) m ≡ false). same_shown r.nodes r.log at m legal_now turns_now other (Committed n v) rule turn refl in
-        let book = λ (infos : Infos) (c d : CommitBook) (point : IsPastPoint files.source (printed r.log) infos) (is : infos.version.0 ≡ version_of n.0 (printed r.log)) (steps : StepsBook true infos c d) (has : BookShows files.source (printed r.log) n.0 c).
-        book_made files.source r.nodes (printed r.log) at n v legal_now rule flight started infos c d steps has in
-        let grows = grows_shown r.nodes (printed r.log) at (Committed n v) legal_now rule in
-        let handed = λ (a : At) (none : start_entry a (printed (shown at (Committed n v) ∷ r.log)) ≡ None). shows.handed a (start_back a (record { at = at; event = Committed n v }) (printed r.log) none) in (
-          now_is cells (shown at (Committed n v) ∷ r.log) b2.log r.nodes b2.nodes new (log_is b1 b2 (Committed n v) e1 e2) (size_is b1 b2 n1 n2)
-              (commit_shows cells (StepsBook true) r.nodes r.log (shown at (Committed n v) ∷ r.log) old new n.0 b node shows files grows jobs (points_shown r.nodes (printed r.log) at (Committed n v) legal_now rule) stay places handed book),
-          files_is cells (shown at (Committed n v) ∷ r.log) b2.log r.nodes b2.nodes new (log_is b1 b2 (Committed n v) e1 e2) (size_is b1 b2 n1 n2)
-              (commit_files cells (StepsBook true) r.nodes r.log (shown at (Committed n v) ∷ r.log) old new n.0 b node shows files grows jobs (points_shown r.nodes (printed r.log) at (Committed n v) legal_now rule) stay places handed book (λ q bytes out. out)),
-        )
-      where
-        commits : start_entry at (printed r.log) ≡ Some (Committing n v) → start_entry at (printed r.log) ≢ Some Publishing
-        commits started is = absurd (let both : Some (Committing n v) ≡ Some Publishing = sym started ∙ is in cc)
-
-        at_node : (m : ℕ) (w : Version) → Some (Committing n v) ≡ Some (Committing (record { 0 = m }) w) → n.0 ≡ m
-        at_node m w both = let is : n ≡ record { 0 = m } = cc in ap (λ (k : NodeNo). k.0) is
-
-        elsewhere : (m : ℕ) → (n.0 == m) ≡ false → start_entry at (printed r.log) ≡ Some (Committing n v) → commit_in_flight m (printed r.log) ≢ Some at
-        elsewhere m apart started flies =
-            let found = commit_found r.nodes (printed r.log) (record { 0 = m }) at legal_now turns_now flies in
-            let both : Some (Committing n v) ≡ Some (Committing (record { 0 = m }) found.version) = sym started ∙ found.entry in
-            absurd (true≢false (sym (eq-eqb n.0 m (at_node m found.version both)) ∙ apart))
-
-    pub end_commit_path : (done : Bool) → done ≡ true → (new : List (Option (NodePlace D))) → CommitsIn (StepsBook done) cells n.0 old new → (b1 b2 : Sheet) → b1.log ≡ b0.log → b1.nodes ≡ b0.nodes → b2.log ≡ shown at (Committed n v) ∷ b1.log → b2.nodes ≡ b1.nodes
-        → MayCommit b0.nodes (printed b0.log) at n v → commit_in_flight n.0 (printed r.log) ≡ Some at → start_entry at (printed r.log) ≡ Some (Committing n v) → Shows cells b2.log b2.nodes new × FilesShow cells b2.log b2.nodes new
-    end_commit_path true is new b b1 b2 e1 n1 e2 n2 may flight started = end_path new b b1 b2 e1 n1 e2 n2 may flight started
-    end_commit_path false is new b b1 b2 e1 n1 e2 n2 may flight started = absurd (true≢false (sym is))
-
-    -- ---- what is now
-
-    pub entry_now : {now : Rest} (e : Event) (b1 b2 : Sheet) → b1.log ≡ b0.log → b1.nodes ≡ b0.nodes → b2.log ≡ shown at e ∷ b1.log → b2.nodes ≡ b1.nodes → IsNow r (record { ended = false; nodes = b2.nodes; log = b2.log; rest = now }) (shown at e ∷ r.log)
-    entry_now e b1 b2 e1 n1 e2 n2 = record { running = refl; nodes = size_is b1 b2 n1 n2; log = log_is b1 b2 e e1 e2 }
+      at_place : (o : Option (NodePlace D)) → place_of old n ≡ o → IsSomeAnd o (PlaceShows cells log n) → HasStageAt IsSome o → CommitsIn StaysStopped cells n old old
+      at_place None is shows stands = absurd shows
+      at_place (Some z) is shows stands = record {
+        place = z;
+        there = is;
+        node = z.node;
+        moves = record { count = refl; there = λ m. by_test (n == m) (λ t. (n == m) ≡ t → place_of old m ≡ (if t then Some z else place_of old m)) (λ here q. sym (ap (place_of old) (eqb-true n m here)) ∙ is) (λ apart q. refl) refl };
+        alters = by z.node shows.node_shows stands;
+      }

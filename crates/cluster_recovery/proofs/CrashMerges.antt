@@ -1,28 +1,33 @@
 -- All that is true of a cluster of which a node crashed, merges among it.
-use Rattle.std.proofs.Common.{◌≡◌, ◌∙◌, ◌==◌, ℕ, Bool, true, false, List, [], ◌∷◌, None, Option, refl, ap, sym, subst, if◌then◌else◌}
+use Rattle.std.proofs.Common.{◌≡◌, ◌∙◌, ◌==◌, ℕ, Bool, true, false, List, [], ◌∷◌, Some, None, Option, length, refl, ap, sym, subst, if◌then◌else◌}
 use Rattle.nrt_base.specs.declared.numbers.At.{At}
 use Rattle.nrt_base.specs.declared.numbers.NodeNo.{NodeNo}
 use Rattle.disk_model.specs.Disk.{Cells}
-use Rattle.std.specs.Prelude.{not}
+use Rattle.disk_model.specs.Faults.{Plans, ended}
+use Rattle.std.specs.Prelude.{not, IsSomeAnd}
 use Rattle.history_rules.specs.declared.entry.Event.TheVariants.{Crashed}
 use Rattle.history_rules.specs.Nodes.{IsNode, is_at, is_running, primary_of}
 use Rattle.history_rules.specs.Lines.{start_entry}
 use Rattle.history_rules.specs.Legal.{KeepsRule, IsLegalPast}
 use Rattle.history_book.specs.Log.{Log, printed, shown}
-use Rattle.history_book.specs.Laws.{IsFresh}
 use Rattle.history_book.specs.Jobs.{job_at}
 use Rattle.history_book.specs.Turns.{AreInTurn}
 use Rattle.merge_tasks.specs.Merging.{Sheet}
 use Rattle.merge_tasks.specs.Board.{Board}
+use Rattle.cluster_nodes.specs.declared.nodes.Node.{Node}
+use Rattle.cluster_nodes.specs.declared.nodes.Node.TheVariants.{Down}
 use Rattle.cluster_nodes.specs.declared.nodes.NodePlace.{NodePlace}
-use Rattle.cluster_nodes.specs.Lives.{CrashesIn}
-use Rattle.cluster_recovery.specs.Falls.{Falls}
+use Rattle.cluster_nodes.specs.Lives.{CrashesIn, EndsPlansIn}
+use Rattle.cluster_recovery.specs.Falls.{PlaceLoses, Falls}
 use Rattle.cluster_nodes.specs.Outs.{want_at}
-use Rattle.cluster_nodes.specs.Places.{place_of}
+use Rattle.cluster_nodes.specs.Places.{place_of, dir_of}
 use Rattle.cluster_state.specs.JobsIn.{place_files, jobs_in}
+use Rattle.cluster_state.specs.LifeCalls.{crashed_tasks}
+use Rattle.cluster_state.specs.PlansIn.{place_plans, plans_in}
+use Rattle.cluster_state.proofs.MetStands.{plans_are}
 use Rattle.cluster_state.proofs.JobsLeft.{files_are}
 use Rattle.cluster_recovery.proofs.Outliving.{jobs_outlive}
-use Rattle.cluster_state.specs.Run.{Run, Rest, files_at}
+use Rattle.cluster_state.specs.Run.{Run, Rest, files_at, plans_at}
 use Rattle.cluster_state.specs.State.{Shows}
 use Rattle.cluster_state.specs.Files.{FilesShow}
 use Rattle.cluster_state.specs.Merging.{MergesStand}
@@ -38,10 +43,10 @@ use Rattle.cluster_recovery.proofs.FallenMerges.{lost_all, lost_all_files, lost_
 module _ {D : Type 0} (cells : D → Cells) where
   pub crash_all : (r : Run) (ended : Bool) (b0 b1 b2 : Sheet) (board now : Board) (old mid new : List (Option (NodePlace D))) (at : At) (n : NodeNo) (reigning : Option NodeNo) → {left : Rest} → record { ended = ended; nodes = b0.nodes; log = b0.log; rest = left } ≡ r → r.ended ≡ false
       → (ended ≡ false → Shows cells b0.log b0.nodes old × FilesShow cells b0.log b0.nodes old) → MergesStand b0.log b0.cut b0.nodes board old → b1.log ≡ b0.log → b1.nodes ≡ b0.nodes → b1.cut ≡ b0.cut → b2.log ≡ shown at (Crashed n) ∷ b1.log → b2.nodes ≡ b1.nodes
-      → b2.cut ≡ (if is_at (primary_of (printed b1.log)) n.0 then false else b1.cut) → IsLegalPast b1.nodes (printed b1.log) → AreInTurn (printed b1.log) → FilesLast → ((m : ℕ) → primary_of (printed b2.log) ≡ None → job_at m b2.log ≡ None) → IsFresh at (printed b0.log)
+      → b2.cut ≡ (if is_at (primary_of (printed b1.log)) n.0 then false else b1.cut) → IsLegalPast b1.nodes (printed b1.log) → AreInTurn (printed b1.log) → FilesLast → ((m : ℕ) → primary_of (printed b2.log) ≡ None → job_at m b2.log ≡ None) → start_entry at (printed b0.log) ≡ None
       → IsNode r.nodes n.0 → is_running n.0 (printed r.log) ≡ true → reigning ≡ primary_of (printed r.log) → CrashesIn cells reigning n.0 old mid → Shows cells b2.log b2.nodes mid × FilesShow cells b2.log b2.nodes mid
       → (is_at reigning n.0 ≡ true → Falls cells board now mid new) → (is_at reigning n.0 ≡ false → (now ≡ board) × (new ≡ mid)) → Shows cells b2.log b2.nodes new × FilesShow cells b2.log b2.nodes new × MergesStand b2.log b2.cut b2.nodes now new
-  crash_all r ended b0 b1 b2 board now old mid new at n reigning view running pair stand e1 n1 c1 e2 n2 c2 legal turns lasting vacant fresh node up is crashed_so both falls stays = tests (is_at reigning n.0) refl
+  crash_all r ended b0 b1 b2 board now old mid new at n reigning view running pair stand e1 n1 c1 e2 n2 c2 legal turns lasting vacant begun node up is crashed_so both falls stays = tests (is_at reigning n.0) refl
     where
       log : b2.log ≡ shown at (Crashed n) ∷ r.log
       log = e2 ∙ ap (λ (l : Log). shown at (Crashed n) ∷ l) (e1 ∙ ap (λ (x : Run). x.log) view)
@@ -50,7 +55,7 @@ module _ {D : Type 0} (cells : D → Cells) where
       size = n2 ∙ (n1 ∙ ap (λ (x : Run). x.nodes) view)
 
       none : start_entry at (printed r.log) ≡ None
-      none = (past_has (IsFresh at) r ended b0 view fresh).begun
+      none = past_has (λ p. start_entry at p ≡ None) r ended b0 view begun
 
       rule : KeepsRule r.nodes (printed r.log) at (Crashed n)
       rule = record { node = node; running = up }
@@ -115,6 +120,22 @@ module _ {D : Type 0} (cells : D → Cells) where
           (λ gone. sym (ap (λ (c : Bool). if c then None else primary_of (printed r.log)) far) ∙ gone)
           (crash_keeps cells r.nodes r.log old mid at n legal_r turns_r rule none crashes lasting vacant_r node s f far) m))
 
+  -- there are as many places as before
+  pub crash_count : (primary : Option NodeNo) (n : ℕ) (old mid new : List (Option (NodePlace D))) (board now : Board) → CrashesIn cells primary n old mid → (is_at primary n ≡ true → Falls cells board now mid new) → (is_at primary n ≡ false → (now ≡ board) × (new ≡ mid)) → length new ≡ length old
+  crash_count primary n old mid new board now b falls stays = kept (is_at primary n) refl ∙ b.count
+    where
+      kept : (t : Bool) → is_at primary n ≡ t → length new ≡ length mid
+      kept true e = (falls e).lose.count
+      kept false e = ap (λ (l : List (Option (NodePlace D))). length l) (stays e).1
+
+  -- the tasks are as before, but where the primary crashed
+  pub crash_tasks : (primary : Option NodeNo) (n : ℕ) (mid new : List (Option (NodePlace D))) (board now : Board) → (is_at primary n ≡ true → Falls cells board now mid new) → (is_at primary n ≡ false → (now ≡ board) × (new ≡ mid)) → now ≡ crashed_tasks (is_at primary n) board
+  crash_tasks primary n mid new board now falls stays = by (is_at primary n) falls stays
+    where
+      by : (t : Bool) → (t ≡ true → Falls cells board now mid new) → (t ≡ false → (now ≡ board) × (new ≡ mid)) → now ≡ crashed_tasks t board
+      by true fell kept = let f = fell refl in λ i. record { posted = f.posted i; rows = f.rows i; counts = f.counts i }
+      by false fell kept = (kept refl).0
+
   -- what the jobs of the other nodes lack and have is as before
   pub crash_jobs : (r x : Run) (old mid new : List (Option (NodePlace D))) (primary : Option NodeNo) (n : NodeNo) (board now : Board) → r.rest.jobs ≡ jobs_in old → x.rest.jobs ≡ jobs_in new → CrashesIn cells primary n.0 old mid
       → (is_at primary n.0 ≡ true → Falls cells board now mid new) → (is_at primary n.0 ≡ false → (now ≡ board) × (new ≡ mid)) → (m : ℕ) → (n.0 == m) ≡ false → files_at m x ≡ files_at m r
@@ -126,3 +147,25 @@ module _ {D : Type 0} (cells : D → Cells) where
       kept : (t : Bool) → is_at primary n.0 ≡ t → place_files (place_of new m) ≡ place_files (place_of mid m)
       kept true e = lost_jobs cells board.rows 0 [] mid new (falls e).lose m
       kept false e = ap (λ (l : List (Option (NodePlace D))). place_files (place_of l m)) (stays e).1
+
+module _ {D : Type 0} (cells : D → Cells) (planned : D → Plans) where
+  -- the plans for the node's disk ended with it
+  pub crash_plans : (r x : Run) (old mid new : List (Option (NodePlace D))) (primary : Option NodeNo) (n : NodeNo) (board now : Board) → r.rest.plans ≡ plans_in planned old → x.rest.plans ≡ plans_in planned new → CrashesIn cells primary n.0 old mid → EndsPlansIn planned n.0 old mid
+      → (is_at primary n.0 ≡ true → Falls cells board now mid new) → (is_at primary n.0 ≡ false → (now ≡ board) × (new ≡ mid)) → plans_at n.0 x ≡ ended (plans_at n.0 r)
+  crash_plans r x old mid new primary n board now before after b ends falls stays =
+      plans_are planned n.0 x new after
+      ∙ (kept (is_at primary n.0) refl
+      ∙ (of_places (place_of old n.0) (place_of mid n.0) ends ∙ sym (ap ended (plans_are planned n.0 r old before))))
+    where
+      of_places : (o w : Option (NodePlace D)) → IsSomeAnd o (λ y. IsSomeAnd w (λ z. planned (dir_of z.node) ≡ ended (planned (dir_of y.node)))) → place_plans planned w ≡ ended (place_plans planned o)
+      of_places None w none = absurd none
+      of_places (Some y) None none = absurd none
+      of_places (Some y) (Some z) is = is
+
+      of_down : (o : Option (NodePlace D)) → PlaceLoses cells n.0 board.rows (Some (record { node = Down b.dir; held = b.held })) o → place_plans planned o ≡ planned b.dir
+      of_down None none = absurd none
+      of_down (Some y) is = ap (λ (z : Node D). planned (dir_of z)) is.1
+
+      kept : (t : Bool) → is_at primary n.0 ≡ t → place_plans planned (place_of new n.0) ≡ place_plans planned (place_of mid n.0)
+      kept true e = of_down (place_of new n.0) (subst (λ (o : Option (NodePlace D)). PlaceLoses cells n.0 board.rows o (place_of new n.0)) b.here ((falls e).lose.each n.0)) ∙ ap (place_plans planned) (sym b.here)
+      kept false e = ap (λ (l : List (Option (NodePlace D))). place_plans planned (place_of l n.0)) (stays e).1

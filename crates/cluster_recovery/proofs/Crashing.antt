@@ -57,7 +57,6 @@ use Rattle.history_tables.proofs.RowLemmas.{by_test}
 use Rattle.history_tables.specs.Numbering.{primary_crashed}
 use Rattle.history_book.specs.Log.{Log, printed, shown}
 use Rattle.merge_tasks.specs.Merging.{Sheet}
-use Rattle.history_book.specs.Laws.{IsFresh}
 use Rattle.history_book.specs.Jobs.{last_job, job_at}
 use Rattle.history_book.specs.Turns.{AreInTurn}
 use Rattle.history_book.proofs.LineLaws.{without_some}
@@ -279,7 +278,7 @@ module _ (source : Name → Content) (lasting : FilesLast) (size : ℕ) (past : 
             omega (arith, all, mine, own)
 
         flying : (a : Option At) → StageShows source past n.0 a (Some s) → MayFindPoint source past n.0 (commit_of s).infos
-        flying None flies = absurd flies
+        flying None stops = stops.point
         flying (Some a) flies = flies.point
 
     of_nothing : ShowsNothing image → book.last ≡ None → ImageShows
@@ -617,13 +616,13 @@ module _ {D : Type 0} (cells : D → Cells) where
 
   pub crash_path : (r : Run) (ended : Bool) (b0 b1 b2 : Sheet) (old new : List (Option (NodePlace D))) (at : At) (n : NodeNo) (reigning : Option NodeNo) → {left : Rest} → record { ended = ended; nodes = b0.nodes; log = b0.log; rest = left } ≡ r → r.ended ≡ false
       → (ended ≡ false → Shows cells b0.log b0.nodes old × FilesShow cells b0.log b0.nodes old) → b1.log ≡ b0.log → b1.nodes ≡ b0.nodes → b2.log ≡ shown at (Crashed n) ∷ b1.log → b2.nodes ≡ b1.nodes
-      → IsLegalPast b1.nodes (printed b1.log) → AreInTurn (printed b1.log) → FilesLast → ((m : ℕ) → primary_of (printed b2.log) ≡ None → job_at m b2.log ≡ None) → IsFresh at (printed b0.log) → IsNode r.nodes n.0
+      → IsLegalPast b1.nodes (printed b1.log) → AreInTurn (printed b1.log) → FilesLast → ((m : ℕ) → primary_of (printed b2.log) ≡ None → job_at m b2.log ≡ None) → start_entry at (printed b0.log) ≡ None → IsNode r.nodes n.0
       → is_running n.0 (printed r.log) ≡ true → reigning ≡ primary_of (printed r.log) → CrashesIn cells reigning n.0 old new → Shows cells b2.log b2.nodes new × FilesShow cells b2.log b2.nodes new
-  crash_path r ended b0 b1 b2 old new at n reigning view running pair e1 n1 e2 n2 legal turns lasting vacant fresh node up is crashed_so =
+  crash_path r ended b0 b1 b2 old new at n reigning view running pair e1 n1 e2 n2 legal turns lasting vacant begun node up is crashed_so =
       let b = before cells r ended b0 b1 view e1 n1 legal turns in
       let log : b2.log ≡ shown at (Crashed n) ∷ r.log = e2 ∙ ap (λ (l : Log). shown at (Crashed n) ∷ l) b.log in
       let size : b2.nodes ≡ r.nodes = n2 ∙ b.size in
-      let none : start_entry at (printed r.log) ≡ None = (past_has (IsFresh at) r ended b0 view fresh).begun in
+      let none : start_entry at (printed r.log) ≡ None = past_has (λ p. start_entry at p ≡ None) r ended b0 view begun in
       let s = was cells r ended b0.nodes b0.log old view running (λ e. (pair e).0) in
       let f = files_was cells r ended b0.nodes b0.log old view running (λ e. (pair e).1) in
       let rule : KeepsRule r.nodes (printed r.log) at (Crashed n) = record { node = node; running = up } in

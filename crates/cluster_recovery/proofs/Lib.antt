@@ -1,5 +1,6 @@
 mod CallsLeft
 mod CommitMerges
+mod CommitPaths
 mod Committing
 mod CrashMerges
 mod Crashing
@@ -8,9 +9,13 @@ mod FallenMerges
 mod FirstMerges
 mod FirstNodes
 mod FirstPlaces
+mod MetLives
+mod MetOnce
 mod Outliving
 mod PromoteRows
 mod PromotedMerges
 mod PromotedNodes
 mod ReopenMerges
 mod Reopening
+mod Replanning
+mod StaysDown

@@ -10,7 +10,7 @@ use Rattle.nrt_base.specs.declared.numbers.Version.{Version}
 use Rattle.history_rules.specs.declared.cause.Cause.{Cause}
 use Rattle.history_rules.specs.declared.cause.Cause.TheVariants.{Down, PrimaryUp, ForceHigh, ForceLow}
 use Rattle.history_rules.specs.declared.entry.Event.{Event}
-use Rattle.history_rules.specs.declared.entry.Event.TheVariants.{Promoted}
+use Rattle.history_rules.specs.declared.entry.Event.TheVariants.{Promoted, Refused}
 use Rattle.history_rules.specs.Nodes.{Past, primary_of, is_running, generation_of, newest_version}
 use Rattle.history_rules.specs.Commits.{is_disk_fault}
 use Rattle.history_book.specs.Log.{Log, printed, shown}
@@ -18,7 +18,8 @@ use Rattle.script_serving.specs.declared.script.Force.{Force}
 use Rattle.script_serving.specs.declared.script.LineCommand.TheVariants.{Promote}
 use Rattle.script_serving.specs.Refusals.{when, forced_version, refusal}
 use Rattle.cluster_state.specs.Run.{Run, IsNow}
-use Rattle.cluster_state.specs.Calls.{by_refusal, LineRefused}
+use Rattle.cluster_state.specs.GivesUp.{met_log}
+use Rattle.cluster_state.specs.Calls.{by_refusal}
 use Rattle.cluster_recovery.specs.PromoteCalls.{promote_event, ForcesAbove}
 
 -- ---- the first cause of the row
@@ -115,9 +116,9 @@ module _ (at : At) (n : NodeNo) (force : Force) (old new : Run) where
   promotion forced = Promoted n (record { 0 = generation_of (printed old.log) + 1 }) (record { 0 = forced }) (record { 0 = forced + 1 })
 
   abbrev Adds : Event → Type 0
-  Adds e = IsNow old new (shown at e ∷ old.log)
+  Adds e = IsNow old new (shown at e ∷ met_log at old new)
 
-  pub unpromoted : (cause : Cause) → refusal (Promote n force) 0 (printed old.log) ≡ Some cause → LineRefused at cause old new → Adds (promote_event at.lane.0 n force (printed old.log))
+  pub unpromoted : (cause : Cause) → refusal (Promote n force) 0 (printed old.log) ≡ Some cause → Adds (Refused cause) → Adds (promote_event at.lane.0 n force (printed old.log))
   unpromoted cause is now = subst (λ (o : Option Cause). Adds (by_refusal o (promotion (forced_version force (printed old.log))))) (sym is) now
 
   pub promoted : (forced : Version) → IsForced n force (printed old.log) forced → Adds (promotion forced.0) → Adds (promote_event at.lane.0 n force (printed old.log))

@@ -41,7 +41,6 @@ use Rattle.history_rules.specs.Steps.{copy_by}
 use Rattle.history_tables.specs.declared.jobs.Job.{Job}
 use Rattle.history_tables.specs.declared.jobs.JobRow.{JobRow}
 use Rattle.history_tables.specs.JobRows.{while_going}
-use Rattle.history_book.specs.Laws.{IsFresh}
 use Rattle.history_book.specs.Log.{Log, printed, shown}
 use Rattle.merge_tasks.specs.Merging.{Sheet}
 use Rattle.history_book.specs.Jobs.{last_job, job_at}
@@ -363,13 +362,13 @@ module _ {D : Type 0} (cells : D → Cells) where
 
   pub promote_path : (r : Run) (ended : Bool) (b0 b1 b2 : Sheet) (old new : List (Option (NodePlace D))) (at : At) (n : NodeNo) (g : Gen) (forced v : Version) → {left : Rest} → record { ended = ended; nodes = b0.nodes; log = b0.log; rest = left } ≡ r → r.ended ≡ false
       → (ended ≡ false → Shows cells b0.log b0.nodes old × FilesShow cells b0.log b0.nodes old) → b1.log ≡ b0.log → b1.nodes ≡ b0.nodes → b2.log ≡ shown at (Promoted n g forced v) ∷ b1.log → b2.nodes ≡ b1.nodes
-      → IsLegalPast b1.nodes (printed b1.log) → AreInTurn (printed b1.log) → ((m : ℕ) → primary_of (printed b0.log) ≡ None → job_at m b0.log ≡ None) → IsFresh at (printed b0.log)
+      → IsLegalPast b1.nodes (printed b1.log) → AreInTurn (printed b1.log) → ((m : ℕ) → primary_of (printed b0.log) ≡ None → job_at m b0.log ≡ None) → start_entry at (printed b0.log) ≡ None
       → KeepsRule r.nodes (printed r.log) at (Promoted n g forced v) → PromotesIn cells g forced n.0 old new → Shows cells b2.log b2.nodes new × FilesShow cells b2.log b2.nodes new
-  promote_path r ended b0 b1 b2 old new at n g forced v view running pair e1 n1 e2 n2 legal turns idle fresh rule promotes =
+  promote_path r ended b0 b1 b2 old new at n g forced v view running pair e1 n1 e2 n2 legal turns idle begun rule promotes =
       let b = before cells r ended b0 b1 view e1 n1 legal turns in
       let log : b2.log ≡ shown at (Promoted n g forced v) ∷ r.log = e2 ∙ ap (λ (l : Log). shown at (Promoted n g forced v) ∷ l) b.log in
       let size : b2.nodes ≡ r.nodes = n2 ∙ b.size in
-      let none : start_entry at (printed r.log) ≡ None = (past_has (IsFresh at) r ended b0 view fresh).begun in
+      let none : start_entry at (printed r.log) ≡ None = past_has (λ p. start_entry at p ≡ None) r ended b0 view begun in
       let s = was cells r ended b0.nodes b0.log old view running (λ e. (pair e).0) in
       let f = files_was cells r ended b0.nodes b0.log old view running (λ e. (pair e).1) in
       let idle_now = subst (λ (x : Run). (m : ℕ) → primary_of (printed x.log) ≡ None → job_at m x.log ≡ None) view idle in (

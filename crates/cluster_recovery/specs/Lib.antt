@@ -1,2 +1,4 @@
+pub mod Commits
 pub mod Falls
+pub mod Planning
 pub mod PromoteCalls

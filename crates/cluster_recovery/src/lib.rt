@@ -2,7 +2,9 @@
 #![tactic(auto)]
 
 mod commits;
+mod down;
 mod falls;
+mod faults;
 mod line_commits;
 mod line_lives;
 mod lives;
@@ -10,6 +12,7 @@ mod promoting;
 mod promotions;
 mod starting;
 
+pub use faults::plan_fault;
 pub use line_commits::{commit_start, commit_step};
 pub use line_lives::{crash, reopen};
 pub use promotions::promote;

@@ -8,9 +8,10 @@ ghost use Rattle.history_book.specs.Log.{printed};
 ghost use Rattle.cluster_state.specs.Run.{IsEnded};
 ghost use Rattle.cluster_state.specs.Calls.{LineRefused};
 ghost use Rattle.cluster_state.specs.LifeCalls.{CommitStarts, CommitSteps};
+ghost use Rattle.cluster_recovery.specs.Commits.{turned};
 
 use crate::commits::{begin_commit, step_commit};
-use cluster_nodes::CommitTask;
+use cluster_nodes::{CommitTask, Went};
 use cluster_state::{ClusterState, Turn, refuse_turn};
 use disk_model::FaultDir;
 use history_rules::{Cause, Event};
@@ -40,8 +41,8 @@ pub fn commit_start<D: FaultDir + Drop>(
     Ok(Turn::Work(task))
 }
 
-/// Makes the next disk call of a commit, and acknowledges it after the last one; or refuses the line as lost where the node has
-/// crashed since.
+/// Makes the next disk call of a commit, and acknowledges it after the last one; or refuses the line: as lost where the node has
+/// crashed since, or where the disk failed.
 pub fn commit_step<D: FaultDir + Drop>(
     state: &mut ClusterState<D>,
     alloc: Global,
@@ -61,11 +62,18 @@ pub fn commit_step<D: FaultDir + Drop>(
         return Ok(Turn::Done);
     }
     state.book().commit_flies(at, n, v);
-    state.book().is_idle();
-    if step_commit(alloc, state, at, n, v)? {
-        Ok(Turn::Done)
-    } else {
-        Ok(Turn::Work(()))
+    let went = step_commit(alloc, state, at, n, v)?;
+    Ok(turn_of(went))
+}
+
+// What a line hands out whose call for a commit went so: it comes again, or it has its reply.
+fn turn_of(went: Went<bool>) -> Turn<()>
+    ensures { result ≡ turned went }
+{
+    match went {
+        Went::Done(true) => Turn::Done,
+        Went::Done(false) => Turn::Work(()),
+        Went::Failed => Turn::Done,
     }
 }
 

@@ -6,6 +6,7 @@ ghost use Rattle.history_rules.specs.Lines.{entries_of_line};
 ghost use Rattle.history_book.specs.Log.{printed, shown};
 ghost use Rattle.script_serving.specs.Refusals.{forced_version as forced_version_lem};
 ghost use Rattle.cluster_state.specs.Run.{IsNow, IsEnded};
+ghost use Rattle.cluster_state.specs.GivesUp.{met_log};
 ghost use Rattle.cluster_recovery.specs.PromoteCalls.{promote_event, ForcesAbove};
 
 use crate::promoting::promote_node;
@@ -58,7 +59,9 @@ pub fn promote<D: FaultDir + Drop>(
     requires fresh { entries_of_line at (printed state.old.log) ≡ [] }
     requires node { IsNode state.old.nodes n.0 }
     ensures ok { OnOk result (IsNow state.old state.new
-        (shown at (promote_event at.lane.0 n force (printed state.old.log)) ∷ state.old.log)) }
+        (shown at (promote_event at.lane.0 n force (printed state.old.log))
+        ∷ met_log at state.old state.new)) }
+    ensures tasks { OnOk result (state.new.rest.tasks ≡ state.old.rest.tasks) }
     ensures err { OnErr result (IsEnded state.old state.new) }
 {
     match forced_above(state.book(), n, force) {

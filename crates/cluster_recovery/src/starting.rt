@@ -99,6 +99,7 @@ pub fn start_cluster<D: FaultDir + Drop>(
         ledger,
         tasks: Tasks::new(alloc),
         places,
+        carries: [false; 255],
         ended,
     })
 }

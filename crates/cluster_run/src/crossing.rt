@@ -1,12 +1,14 @@
-//! A cluster may be handed from thread to thread. The check finds it of each part but events, so a book has a law of its own.
+//! A cluster may be handed from thread to thread. The check finds it of each part but events, so a book and its ledger have laws of their own.
 
 ghost use denote.Param.Send.{IsSend};
 ghost use Rattle.history_book.specs.contracts.book.Book as book;
+ghost use Rattle.merge_tasks.specs.contracts.ledger.Ledger as ledger;
 
 use history_book::Stop;
 use history_rules::Entry;
 use history_tables::{JobTable, Lines, NodeRow, Numbers, Tickets};
 use lane_threads::crossing::entry_crosses;
+use merge_tasks::FilePlans;
 
 /// A type that the check finds to cross threads. A law.
 pub fn sent<T: Send>()
@@ -25,4 +27,12 @@ pub fn book_crosses()
     sent::<Lines>();
     sent::<Tickets>();
     sent::<JobTable>();
+}
+
+/// A book with its merges, and with the faults that are planned for files, may cross threads. A law.
+pub fn ledger_crosses()
+    ensures { IsSend ledger.the_row }
+{
+    book_crosses();
+    sent::<Vec<FilePlans>>();
 }

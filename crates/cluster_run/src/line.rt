@@ -5,14 +5,13 @@ ghost use Rattle.history_rules.specs.Lines.{entries_of_line};
 ghost use Rattle.history_book.specs.Log.{printed};
 ghost use Rattle.script_serving.specs.Form.{is_command};
 ghost use Rattle.lane_threads.specs.Seats.{log_seen, IsLaneSeat, EndsItsLine};
-ghost use Rattle.cluster_run.specs.Built.{is_run};
 
 use disk_model::FaultDir;
 use documents::Op;
 use hist_lock::LaneSeat;
 use lane_copies::{copy, drain, merge, settle};
 use lane_lines::{
-    ask, close, commit, crash, list_files, open, promote, publish, reopen, search, write,
+    ask, close, commit, crash, fault, list_files, open, promote, publish, reopen, search, write,
 };
 use lane_sections::{Gate, Lanes, Site};
 use nrt_base::{NoMemory, Share};
@@ -28,7 +27,6 @@ pub fn do_line<R: Wait, D: FaultDir + Drop, G: Gate>(
     requires seat { IsLaneSeat lanes.now.setup.log lanes.now.lock.now line.now.at.lane.0 seat.old }
     requires fresh { entries_of_line line.now.at (printed (log_seen seat.old)) ≡ [] }
     requires command { IsTrue (is_command lanes.now.setup.nodes line.now.command) }
-    requires built { IsTrue (is_run line.now.command) }
     ensures { OnOk result (EndsItsLine lanes.now.setup.log lanes.now.lock.now line.now.command
         line.now.at seat.old seat.new) }
 {
@@ -60,6 +58,6 @@ pub fn do_line<R: Wait, D: FaultDir + Drop, G: Gate>(
         LineCommand::Promote(n, force) => promote(lanes, seat, at, *n, *force),
         LineCommand::Merge(factor) => merge(lanes, seat, at, *factor),
         LineCommand::Drain(most) => drain(lanes, seat, at, *most),
-        LineCommand::Fault(..) => unreachable!(),
+        LineCommand::Fault(n, plan) => fault(lanes, seat, at, *n, *plan),
     }
 }

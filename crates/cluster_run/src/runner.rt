@@ -1,8 +1,6 @@
 //! What runs the lines of a cluster, for all lanes.
 
-ghost use Rattle.std.specs.Prelude.{◌&&◌};
 ghost use Rattle.script_serving.specs.Form.{is_command};
-ghost use Rattle.cluster_run.specs.Built.{is_run};
 
 use crate::line::do_line;
 use disk_model::FaultDir;
@@ -26,7 +24,7 @@ pub struct ClusterLines<'g, G: Gate> {
 impl<'g, D: FaultDir + Drop, G: Gate> RunsLines<Site<D>> for ClusterLines<'g, G> {
     ghost set_up = { λ r. r.setup };
 
-    ghost runs = { λ r command. is_command r.setup.nodes command && is_run command };
+    ghost runs = { λ r command. is_command r.setup.nodes command };
 
     fn run_line<R: Wait>(
         &self,

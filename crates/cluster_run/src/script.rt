@@ -10,10 +10,9 @@ ghost use Rattle.disk_memory.specs.Memory.{cells_in, known_plans};
 ghost use Rattle.trans_log.specs.Logs.{SameLogs, IsCalm};
 ghost use Rattle.cluster_state.specs.Starting.{IsEmptyDir};
 ghost use Rattle.lane_sections.specs.Given.{is_logged};
-ghost use Rattle.cluster_run.specs.Built.{IsPlainScript};
 ghost use Rattle.cluster_run.specs.Running.{history_of};
 
-use crate::crossing::{book_crosses, sent};
+use crate::crossing::{ledger_crosses, sent};
 use crate::runner::ClusterLines;
 use cluster_nodes::NodePlace;
 use cluster_state::ClusterState;
@@ -83,16 +82,16 @@ pub fn run_script<R: Threads + Wait + Sync, G: Gate + Sync>(
     script: &Script,
 ) -> Result<Cluster<MemDir>, NoMemory>
     requires form { IsInForm script.now }
-    requires built { IsPlainScript script.now }
     ensures running { IfOk result (λ c. c.ended ≡ false) }
     ensures legal { IfOk result (λ c. IsLegal (history_of c)) }
     ensures serves { IfOk result (λ c. Serves script.now (history_of c)) }
     ensures told { IfOk result (λ c. IsTold c.log) }
 {
-    book_crosses();
+    ledger_crosses();
     sent::<Ledger>();
     sent::<Tasks>();
     sent::<Vec<Option<NodePlace<MemDir>>>>();
+    sent::<[bool; 255]>();
     sent::<ClusterState<MemDir>>();
     sent::<Cluster<MemDir>>();
     sent::<Option<TransLog<MemDir>>>();

@@ -8,3 +8,4 @@ mod PointNames
 mod ReadRows
 mod TicketFiles
 mod TicketPaths
+mod Without

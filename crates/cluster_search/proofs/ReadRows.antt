@@ -27,6 +27,7 @@ use Rattle.history_tables.specs.Begins.{event_of, open_line}
 use Rattle.history_tables.specs.Openings.{ticket_of}
 use Rattle.history_book.specs.Log.{Log, printed, shown}
 use Rattle.cluster_state.specs.Run.{Run, IsNow}
+use Rattle.cluster_state.specs.GivesUp.{met_log}
 use Rattle.history_book.proofs.LineLaws.{open_started}
 use Rattle.history_book.proofs.OpenLaws.{last_started}
 use Rattle.history_book.proofs.ReignLaws.{start_kept}
@@ -138,18 +139,18 @@ turned false x y = refl
 
 -- how a search has ended
 pub opened_ends : (at : At) (n : NodeNo) (t : TicketNo) (v : Version) (query : Query) (answer : Answer) (old new : Run) → last_of_line at (printed old.log) ≡ Some (Opened n t v)
-    → IsNow old new (shown at (if crashes n.0 (printed old.log) == crashes n.0 (before_start at (printed old.log)) then Answered n t v query answer else Refused Lost) ∷ old.log)
+    → IsNow old new (shown at (if crashes n.0 (printed old.log) == crashes n.0 (before_start at (printed old.log)) then Answered n t v query answer else Refused Lost) ∷ met_log at old new)
     → AnswerEnds at (last_of_line at (printed old.log)) query answer old new
 opened_ends at n t v query answer old new last now =
     subst (λ (o : Option Event). AnswerEnds at o query answer old new) (sym last)
-    (subst (λ (e : Event). IsNow old new (shown at e ∷ old.log)) (turned (crashes n.0 (printed old.log) == crashes n.0 (before_start at (printed old.log))) (Answered n t v query answer) (Refused Lost)) now)
+    (subst (λ (e : Event). IsNow old new (shown at e ∷ met_log at old new)) (turned (crashes n.0 (printed old.log) == crashes n.0 (before_start at (printed old.log))) (Answered n t v query answer) (Refused Lost)) now)
 
 pub asking_ends : (at : At) (n : NodeNo) (t : TicketNo) (v : Version) (query : Query) (answer : Answer) (old new : Run) → last_of_line at (printed old.log) ≡ Some (Asking n t v)
-    → IsNow old new (shown at (if crashes n.0 (printed old.log) == crashes n.0 (before_start at (printed old.log)) then Answered n t v query answer else Refused Lost) ∷ old.log)
+    → IsNow old new (shown at (if crashes n.0 (printed old.log) == crashes n.0 (before_start at (printed old.log)) then Answered n t v query answer else Refused Lost) ∷ met_log at old new)
     → AnswerEnds at (last_of_line at (printed old.log)) query answer old new
 asking_ends at n t v query answer old new last now =
     subst (λ (o : Option Event). AnswerEnds at o query answer old new) (sym last)
-    (subst (λ (e : Event). IsNow old new (shown at e ∷ old.log)) (turned (crashes n.0 (printed old.log) == crashes n.0 (before_start at (printed old.log))) (Answered n t v query answer) (Refused Lost)) now)
+    (subst (λ (e : Event). IsNow old new (shown at e ∷ met_log at old new)) (turned (crashes n.0 (printed old.log) == crashes n.0 (before_start at (printed old.log))) (Answered n t v query answer) (Refused Lost)) now)
 
 -- ---- files
 

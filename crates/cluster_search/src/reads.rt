@@ -2,14 +2,16 @@
 
 ghost use Rattle.std.specs.Prelude.{◌≡◌, ◌≢◌, ◌==◌, ◌∷◌, [], false, true, Some, ℕ, Option, OnOk, OnErr, IfOk};
 ghost use Rattle.nrt_base.specs.declared.numbers.NodeNo.{NodeNo};
-ghost use Rattle.history_rules.specs.Nodes.{IsNode, is_running, version_of};
-ghost use Rattle.history_rules.specs.Lines.{is_start, start_entry, entries_of_line, commit_in_flight};
+ghost use Rattle.history_rules.specs.Nodes.{Past, IsNode, is_running, version_of};
+ghost use Rattle.history_rules.specs.Lines.{is_answered, is_start, start_entry, entries_of_line, commit_in_flight};
+ghost use Rattle.history_rules.specs.FaultLaws.{stands_over};
 ghost use Rattle.history_rules.specs.Tickets.{has_ticket, open_ticket};
 ghost use Rattle.history_rules.specs.Legal.{KeepsRule};
 ghost use Rattle.history_tables.specs.Openings.{opens_ticket, ticket_of};
 ghost use Rattle.history_book.specs.Log.{printed, shown};
 ghost use Rattle.history_book.specs.Told.{IsSo};
 ghost use Rattle.history_book.specs.Turns.{InTurn};
+ghost use Rattle.cluster_state.specs.GivesUp.{met_log};
 ghost use Rattle.cluster_state.specs.Run.{IsNow, KeepsRest, IsEnded};
 ghost use Rattle.cluster_state.specs.State.{ReadsAt};
 ghost use Rattle.cluster_state.specs.Moves.{moves, moves_tickets, EndsKey};
@@ -17,14 +19,14 @@ ghost use Rattle.cluster_state.specs.FileChanges.{keeps_jobs, keeps_commits};
 ghost use Rattle.merge_tasks.specs.TaskLog.{is_drained};
 
 use cluster_nodes::{HeldKey, give_ticket_back, hold_ticket, lease_in, put, take};
-use cluster_state::ClusterState;
+use cluster_state::{ClusterState, are_planned, kinds_in, note_met};
 use disk_model::FaultDir;
 use history_book::Opening;
 use history_rules::Event;
 use nrt_base::{At, NoMemory, NodeNo, TicketNo, Version};
 use searcher_switch::Lease;
 use seg_reader::Segment;
-use std::alloc::Global;
+use std::alloc::{AllocError, Global};
 
 /// Opens ticket `t` of the lane of `at`, on the point that the running node `n` searches, and appends `Opened` with that
 /// point's version. `t` is above 0, and the lane has no open ticket of that number. The point's files stay until the ticket
@@ -136,10 +138,11 @@ pub fn ask_ticket<D: FaultDir + Drop>(
     Ok(lease)
 }
 
-/// Appends an entry that moves no node and starts no line, and gives back the ticket of node `n` that is held for `key`, if
-/// one is: after the entry nothing of the history needs it. It fails when out of memory: the cluster has ended, and its log
-/// is as before.
+/// Appends an entry that moves no node and starts no line, whose rule stands over faults of disks, behind those that the call met; and gives
+/// back the ticket of node `n` that is held for `key`, if one is: after the entry nothing of the history needs it. It fails when out of
+/// memory: the cluster has ended, and its log is as before.
 pub fn note_without<D: FaultDir + Drop>(
+    alloc: Global,
     cluster: &mut ClusterState<D>,
     at: At,
     n: NodeNo,
@@ -147,7 +150,9 @@ pub fn note_without<D: FaultDir + Drop>(
     event: Event,
 ) -> Result<(), NoMemory>
     requires running { cluster.old.ended ≡ false }
+    requires unanswered { is_answered at (printed cluster.old.log) ≡ false }
     requires rule { KeepsRule cluster.old.nodes (printed cluster.old.log) at event }
+    requires over { stands_over (start_entry at (printed cluster.old.log)) event ≡ true }
     requires turn { InTurn (printed cluster.old.log) at event }
     requires told { IsSo cluster.old.log at event }
     requires line { start_entry at (printed cluster.old.log) ≢ Some Event.Publishing }
@@ -160,18 +165,32 @@ pub fn note_without<D: FaultDir + Drop>(
     requires commits { (m : ℕ) → keeps_commits event m ≡ true }
     requires flights { (m : ℕ) → commit_in_flight m (printed cluster.old.log) ≢ Some at }
     requires node { IsNode cluster.old.nodes n.0 }
-    requires ends { EndsKey (printed cluster.old.log)
-        (printed (shown at event ∷ cluster.old.log)) n.0 key }
-    ensures ok { OnOk result (IsNow cluster.old cluster.new (shown at event ∷ cluster.old.log)) }
+    requires ends { (past : Past)
+        → EndsKey past (record { at = at; event = event } ∷ past) n.0 key }
+    ensures ok { OnOk result (IsNow cluster.old cluster.new
+        (shown at event ∷ met_log at cluster.old cluster.new)) }
     ensures rest { OnOk result (KeepsRest cluster.old cluster.new) }
     ensures err { OnErr result (IsEnded cluster.old cluster.new) }
 {
     cluster.ended = true;
-    cluster.ledger.reserve(1)?;
+    let before = kinds_in(alloc, cluster.places.as_slice())?;
+    if before.len() > u8::MAX as usize {
+        return Err(AllocError);
+    }
+    cluster.ledger.reserve(2 * before.len() + 1)?;
     let mut place = take(&mut cluster.places, n);
     give_ticket_back(&mut place, key);
     put(&mut cluster.places, n, place);
-    cluster.ledger.show(at, event);
+    if !are_planned(cluster.ledger.book(), before.as_slice(), &cluster.places) {
+        return Err(AllocError);
+    }
+    note_met(
+        &mut cluster.ledger,
+        at,
+        before.as_slice(),
+        &cluster.places,
+        event,
+    );
     cluster.ended = false;
     Ok(())
 }

@@ -8,6 +8,7 @@ ghost use Rattle.history_rules.specs.Points.{documents_at};
 ghost use Rattle.history_rules.specs.Started.{StartedSearch};
 ghost use Rattle.history_tables.specs.Begins.{open_line};
 ghost use Rattle.history_book.specs.Log.{printed, shown};
+ghost use Rattle.cluster_state.specs.GivesUp.{met_log};
 ghost use Rattle.cluster_state.specs.Run.{IsNow, KeepsRest, IsEnded};
 ghost use Rattle.cluster_state.specs.Calls.{SearchStarts, AskStarts, ScansAt, AnswerEnds};
 
@@ -115,12 +116,14 @@ fn end_search<D: FaultDir + Drop>(
     ensures ok { OnOk result (IsNow state.old state.new (shown at
         (if crashes n.0 (printed state.old.log)
         == crashes n.0 (before_start at (printed state.old.log))
-        then Event.Answered n t v query.now answer else Event.Refused Cause.Lost) ∷ state.old.log)) }
+        then Event.Answered n t v query.now answer else Event.Refused Cause.Lost)
+        ∷ met_log at state.old state.new)) }
     ensures rest { OnOk result (KeepsRest state.old state.new) }
     ensures err { OnErr result (IsEnded state.old state.new) }
 {
     state.is_apart(at);
     state.has_no_commit(at);
+    state.book().is_unanswered(at);
     if !state.book().node_survives(at, n) {
         let cause = Cause::Lost;
         return state.note(at, Event::Refused { cause });
@@ -137,7 +140,7 @@ fn end_search<D: FaultDir + Drop>(
         answer,
     };
     if t.0 == 0 {
-        note_without(state, at, n, HeldKey::Search { at }, event)
+        note_without(alloc, state, at, n, HeldKey::Search { at }, event)
     } else {
         state.note(at, event)
     }

@@ -7,6 +7,7 @@ ghost use Rattle.history_rules.specs.Tickets.{open_ticket};
 ghost use Rattle.history_book.specs.Log.{printed, shown};
 ghost use Rattle.cluster_state.specs.Run.{IsNow, KeepsRest, IsEnded};
 ghost use Rattle.cluster_state.specs.Calls.{open_event, close_by};
+ghost use Rattle.cluster_state.specs.GivesUp.{met_log};
 
 use crate::reads::{note_without, open_ticket};
 use cluster_nodes::HeldKey;
@@ -45,13 +46,15 @@ pub fn ticket_open<D: FaultDir + Drop>(
 /// Closes a ticket of the lane.
 pub fn ticket_close<D: FaultDir + Drop>(
     state: &mut ClusterState<D>,
+    alloc: Global,
     at: At,
     t: TicketNo,
 ) -> Result<(), NoMemory>
     requires running { state.old.ended ≡ false }
     requires fresh { entries_of_line at (printed state.old.log) ≡ [] }
     ensures ok { OnOk result (IsNow state.old state.new (shown at
-        (close_by t (open_ticket at.lane.0 t.0 (printed state.old.log))) ∷ state.old.log)) }
+        (close_by t (open_ticket at.lane.0 t.0 (printed state.old.log)))
+        ∷ met_log at state.old state.new)) }
     ensures rest { OnOk result (KeepsRest state.old state.new) }
     ensures err { OnErr result (IsEnded state.old state.new) }
 {
@@ -60,9 +63,10 @@ pub fn ticket_close<D: FaultDir + Drop>(
         Some(opening) => {
             state.book().is_legal();
             state.has_no_commit(at);
+            state.book().is_fresh(at);
             let n = opening.node;
             let key = HeldKey::Ticket { lane: at.lane, t };
-            note_without(state, at, n, key, Event::Closed { n, t })
+            note_without(alloc, state, at, n, key, Event::Closed { n, t })
         }
     }
 }

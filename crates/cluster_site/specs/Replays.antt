@@ -15,6 +15,8 @@ use Rattle.script_serving.specs.Replays.{logged_operations, replay_due, due}
 use Rattle.script_serving.specs.Serves.{is_newest_at}
 use Rattle.trans_log.specs.declared.record.LogOp.{LogOp}
 use Rattle.lane_threads.specs.Owes.{GoesByLine}
+use Rattle.cluster_state.specs.Run.{Run}
+use Rattle.cluster_state.specs.GivesUp.{met_log}
 use Rattle.cluster_recovery.specs.PromoteCalls.{promote_event}
 use Rattle.cluster_site.specs.Sites.{operations_in}
 
@@ -65,9 +67,10 @@ with_accepted at (op ∷ ops) log = with_accepted at ops (shown at (Accepted (ac
 abbrev pub with_replay : At → Bool → Log → Log
 with_replay at logged log = with_accepted at (due logged (printed log)) log
 
--- the log with what a line does that promotes a node, and all that is then due to be accepted again
-abbrev pub with_promotion : At → NodeNo → Force → Bool → Log → Log
-with_promotion at n force logged log = with_replay at logged (shown at (promote_event at.lane.0 n force (printed log)) ∷ log)
+-- the log with what a line does that promotes a node, behind the faults of disks that were met from the one to the other, and all that is then
+-- due to be accepted again
+abbrev pub with_promotion : At → NodeNo → Force → Bool → Run → Run → Log
+with_promotion at n force logged old new = with_replay at logged (shown at (promote_event at.lane.0 n force (printed old.log)) ∷ met_log at old new)
 
 -- since this log the line of a promotion has accepted again, and these operations are left of what was due there
 pub record ReplaysTo (at : At) (base now : Log) (left : List Op) : Type 0 where

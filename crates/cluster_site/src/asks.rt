@@ -19,6 +19,7 @@ impl<D: FaultDir + Drop> Site<D> {
     ghost use Rattle.history_book.specs.Log.{printed, shown};
     ghost use Rattle.script_serving.specs.declared.script.LineCommand.{LineCommand};
     ghost use Rattle.script_serving.specs.declared.script.LineCommand.TheVariants.{Open, Close, Search, Ask, Files};
+    ghost use Rattle.cluster_state.specs.GivesUp.{met_log};
     ghost use Rattle.cluster_state.specs.Run.{IsNow, KeepsRest, IsEnded};
     ghost use Rattle.cluster_core.specs.Doing.{IsReplied, IsRepliedAtDone, IsBegunAtWork, AsksFor};
     ghost use Rattle.cluster_site.specs.Sites.{DoesAtSite};
@@ -94,7 +95,8 @@ impl<D: FaultDir + Drop> Site<D> {
         self.cluster.ask_start(alloc, at, t)
     }
 
-    /// Ends a search with its answer, or refuses the line as lost exactly where its node has crashed since.
+    /// Ends a search with its answer, or refuses the line as lost exactly where its node has crashed since; behind the faults of disks that
+    /// giving its files back met.
     pub fn answer_end(
         &mut self,
         alloc: Global,
@@ -119,12 +121,13 @@ impl<D: FaultDir + Drop> Site<D> {
         self.cluster.answer_end(alloc, at, query, answer)
     }
 
-    /// Closes a ticket of the lane.
-    pub fn ticket_close(&mut self, at: At, t: TicketNo) -> Result<(), NoMemory>
+    /// Closes a ticket of the lane, behind the faults of disks that giving its files back met.
+    pub fn ticket_close(&mut self, alloc: Global, at: At, t: TicketNo) -> Result<(), NoMemory>
         requires running { self.old.run.ended ≡ false }
         requires fresh { entries_of_line at (printed self.old.run.log) ≡ [] }
         ensures ok { OnOk result (IsNow self.old.run self.new.run (shown at
-            (close_by t (open_ticket at.lane.0 t.0 (printed self.old.run.log))) ∷ self.old.run.log)) }
+            (close_by t (open_ticket at.lane.0 t.0 (printed self.old.run.log)))
+            ∷ met_log at self.old.run self.new.run)) }
         ensures rest { OnOk result (KeepsRest self.old.run self.new.run) }
         ensures err { OnErr result (IsEnded self.old.run self.new.run) }
 
@@ -132,7 +135,7 @@ impl<D: FaultDir + Drop> Site<D> {
         ensures does { OnOk result (DoesAtSite (Close t) at self.old self.new) }
         ensures replied { OnOk result (IsReplied at self.new.run) }
     {
-        self.cluster.ticket_close(at, t)
+        self.cluster.ticket_close(alloc, at, t)
     }
 
     /// Lists the files of a node.

@@ -7,6 +7,7 @@ mod copying;
 mod lasting;
 mod merging;
 mod opening;
+mod planning;
 mod promoting;
 mod publishing;
 mod replaying;

@@ -52,7 +52,8 @@ impl<D: FaultDir + Drop> Site<D> {
         self.cluster.task_take(by)
     }
 
-    /// Writes the merged segment of a task, and begins a copy of it to each replica that runs. Where the task has ended nothing changes.
+    /// Writes the merged segment of a task, and begins a copy of it to each replica that runs. Where the primary's disk fails, by a plan that
+    /// the history shows, the merge is given up. Where the task has ended nothing changes.
     pub fn merge_ready(
         &mut self,
         alloc: Global,
@@ -91,9 +92,11 @@ impl<D: FaultDir + Drop> Site<D> {
         self.cluster.precopy_next(alloc, task, copy)
     }
 
-    /// Puts a part into the copy of a task. Done says that the task has ended.
+    /// Puts a part into the copy of a task. Done says that the task has ended, also where the disk of the node failed, by a plan that the
+    /// history shows.
     pub fn precopy_arrived(
         &mut self,
+        alloc: Global,
         task: &Task,
         copy: Sent,
         part: Part,
@@ -102,17 +105,18 @@ impl<D: FaultDir + Drop> Site<D> {
         requires node { IsNode self.old.run.nodes copy.node.0 }
         requires out { carried_out part.name self.old.run.log ≡ Some part.bytes }
         requires meta { IsMetaOf part.bytes part.meta }
-        ensures ok { IfOk result (PartTurns task.now.seg copy.node copy.job self.old.run self.new.run) }
+        ensures ok { IfOk result (PartTurns task.now.line task.now.seg task.now.by
+            copy.node copy.job self.old.run self.new.run) }
         ensures err { OnErr result (IsEnded self.old.run self.new.run) }
 
         // what its taker is owed
         ensures does { OnOk result (DoesTaskAtSite task.now.by self.old self.new) }
     {
-        self.cluster.precopy_arrived(task, copy, part)
+        self.cluster.precopy_arrived(alloc, task, copy, part)
     }
 
-    /// Cuts the merge of a task over. Busy comes exactly where it is to be cut over and a publish is in flight; where the task has ended
-    /// nothing changes.
+    /// Cuts the merge of a task over, or gives it up where the primary's disk fails, by a plan that the history shows. Busy comes exactly where
+    /// it is to be cut over and a publish is in flight; where the task has ended nothing changes.
     pub fn merge_cut(&mut self, alloc: Global, task: &Task) -> Result<Turn<()>, NoMemory>
         requires running { self.old.run.ended ≡ false }
         ensures ok { IfOk result (CutTurns task.now.line task.now.seg task.now.by

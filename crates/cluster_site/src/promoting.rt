@@ -32,7 +32,7 @@ impl<D: FaultDir + Drop> Site<D> {
         requires fresh { entries_of_line at (printed self.old.run.log) ≡ [] }
         requires node { IsNode self.old.run.nodes n.0 }
         ensures ok { OnOk result (IsNow self.old.run self.new.run
-            (with_promotion at n force (is_logged self.old) self.old.run.log)) }
+            (with_promotion at n force (is_logged self.old) self.old.run self.new.run)) }
         ensures err { OnErr result (self.new.run.ended ≡ true) }
         ensures nodes { self.new.run.nodes ≡ self.old.run.nodes }
 

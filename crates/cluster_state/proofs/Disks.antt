@@ -2,7 +2,7 @@
 use Rattle.std.proofs.Common.{◌≡◌, ◌≢◌, ◌==◌, ℕ, Bool, true, false, true≢false, List, [], ◌∷◌, Some, None, Option, refl, ap, ◌∙◌, sym, subst, if◌then◌else◌}
 use Rattle.std.specs.Prelude.{IsSomeAnd, IfSome, is_some, nat_lt, ◌||◌, ◌&&◌}
 use Rattle.std.specs.List.{list_any}
-use Rattle.std.proofs.lemmas.Bool.{eqb-true, not-true}
+use Rattle.std.proofs.lemmas.Bool.{eqb-true, not-true, or_right}
 use Rattle.history_rules.proofs.CommitLemmas.{more_found}
 use Rattle.nrt_base.specs.declared.numbers.At.{At}
 use Rattle.disk_model.specs.Disk.{Name, Content, Cells}
@@ -12,10 +12,10 @@ use Rattle.commit_steps.specs.declared.states.Commit.{Commit}
 use Rattle.commit_steps.specs.declared.stage.Stage.{Stage}
 use Rattle.commit_steps.specs.declared.stage.CommitBook.{CommitBook}
 use Rattle.history_rules.specs.declared.entry.Event.{Event}
-use Rattle.history_rules.specs.declared.entry.Event.TheVariants.{Published, Switched, Committing, Committed, Crashed, Reopened, Promoted}
+use Rattle.history_rules.specs.declared.entry.Event.TheVariants.{Published, Switched, Committing, Committed, Crashed, Reopened, Promoted, Refused}
 use Rattle.history_rules.specs.Nodes.{Past, is_at, primary_of}
 use Rattle.history_rules.specs.Lines.{same_at, is_start, is_reply, start_entry, without_at, commit_in_flight}
-use Rattle.history_rules.specs.Commits.{has_committed, late_commit, more_by, reopenable_versions}
+use Rattle.history_rules.specs.Commits.{has_committed, is_disk_fault, starts_commit, is_stuck, late_commit, more_by, reopenable_versions}
 use Rattle.history_rules.specs.Legal.{KeepsRule, IsLegalPast}
 use Rattle.history_tables.proofs.RowLemmas.{by_test, same_at_is}
 use Rattle.history_book.specs.Laws.{may_find}
@@ -90,6 +90,12 @@ module _ (past : Past) (at : At) (n : ℕ) where
       tests true false here once = refl
       tests false b here once = refl
 
+  stuck_more : (e : Event) → keeps_commits e n ≡ true → is_stuck n past ≡ true → is_stuck n (after e) ≡ true
+  stuck_more (Committed m w) keeps stuck = ap (λ (b : Bool). if b then false else is_stuck n past) (not-true (m.0 == n) keeps) ∙ stuck
+  stuck_more (Reopened m w) keeps stuck = ap (λ (b : Bool). if b then false else is_stuck n past) (not-true (m.0 == n) keeps) ∙ stuck
+  stuck_more (Refused cause) keeps stuck = or_right (is_disk_fault cause && starts_commit n (start_entry at past)) (is_stuck n past) stuck
+  stuck_more e keeps stuck = stuck
+
   -- an entry that is about no commit of the node, of a line whose commit is not in flight there
   pub commits_shown : (size : ℕ) (e : Event) → IsLegalPast size past → AreInTurn past → KeepsRule size past at e → InTurn past at e → keeps_commits e n ≡ true → commit_in_flight n past ≢ Some at → CommitsStay past (after e) n
   commits_shown size e legal turns rule turn keeps other = record {
@@ -98,6 +104,7 @@ module _ (past : Past) (at : At) (n : ℕ) where
     committed = committed_same e keeps;
     flight = flight_kept e keeps other;
     start = λ a is. let found = commit_found size past (record { 0 = n }) a legal turns is in start_kept e a _ turn found.entry;
+    stuck = λ stuck. stuck_more e keeps stuck;
   }
 
 -- in the terms of a call
@@ -113,6 +120,7 @@ commits_alone past n = record {
   committed = refl;
   flight = refl;
   start = λ at is. refl;
+  stuck = λ stuck. stuck;
 }
 
 -- two steps in a row
@@ -123,6 +131,7 @@ commits_then past mid now n a b = record {
   committed = b.committed ∙ a.committed;
   flight = b.flight ∙ a.flight;
   start = λ at is. b.start at (a.flight ∙ is) ∙ a.start at is;
+  stuck = λ stuck. b.stuck (a.stuck stuck);
 }
 
 -- ---- a node
@@ -132,15 +141,26 @@ module _ (source wider : Name → Content) (more : Extends source wider) (past n
     found_stays : (infos : Infos) → MayFindPoint source past n infos → MayFindPoint wider now n infos
     found_stays infos was = record { point = point_wider source wider now infos more (point_stays source past now infos stay.points was.point); found = stay.found infos.version.0 was.found }
 
+    -- a node that is not stuck was not
+    free_before : is_stuck n now ≡ false → is_stuck n past ≡ false
+    free_before free = tests (is_stuck n past) refl
+      where
+        tests : (b : Bool) → is_stuck n past ≡ b → b ≡ false
+        tests true was = absurd (true≢false (sym (stay.stuck was) ∙ free))
+        tests false was = refl
+
     last_stays : (o : Option Commit) → LastShows source past n o → LastShows wider now n o
     last_stays None was = stay.found 1 was
     last_stays (Some c) was = found_stays c.infos was
 
     stage_stays : (a : Option At) (s : Option Stage) → commit_in_flight n past ≡ a → StageShows source past n a s → StageShows wider now n a s
     stage_stays None None is was = was
-    stage_stays None (Some s) is was = was
-    stage_stays (Some at) None is was = was
-    stage_stays (Some at) (Some s) is was = record { point = found_stays (commit_of s).infos was.point; started = λ m v begun. was.started m v (sym (stay.start at is) ∙ begun) }
+    stage_stays None (Some s) is was = record { point = found_stays (commit_of s).infos was.point; stuck = stay.stuck was.stuck }
+    stage_stays (Some at) None is was = stay.stuck was
+    stage_stays (Some at) (Some s) is was = record {
+      point = found_stays (commit_of s).infos was.point;
+      started = λ free m v begun. was.started (free_before free) m v (sym (stay.start at is) ∙ begun);
+    }
 
     book_stays : (book : CommitBook) → BookShows source past n book → BookShows wider now n book
     book_stays book was = record {

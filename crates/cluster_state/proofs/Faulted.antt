@@ -9,6 +9,7 @@ use Rattle.nrt_base.specs.SegNumbers.{segment_generation, segment_place}
 use Rattle.history_rules.specs.Nodes.{Past, generation_of}
 use Rattle.history_rules.specs.Points.{names_drawn, names_drawn_in}
 use Rattle.history_rules.specs.Commits.{is_passed}
+use Rattle.history_rules.specs.Faults.{is_of_disk}
 use Rattle.history_rules.proofs.FaultLaws.{both}
 use Rattle.history_rules.proofs.PassedLaws.{stays_unpassed}
 use Rattle.history_book.specs.Log.{Log, printed, shown, mark_for}
@@ -66,6 +67,7 @@ module _ (past : Past) (at : At) (n : ℕ) (kind : FaultKind) where
     committed = refl;
     flight = refl;
     start = λ a is. refl;
+    stuck = λ stuck. stuck;
   }
 
 -- a version that no copy passed is passed by none
@@ -138,20 +140,28 @@ module _ {D : Type 0} (cells : D → Cells) (size : ℕ) (places : List (Option 
 -- ---- the faults that rose
 
 -- what holds behind one fault of a disk holds behind all that rose
+pub met_keeps : (P : Log → Type 0) (task : Bool) (at : At) → ((n : ℕ) (kind : FaultKind) (log : Log) → is_of_disk kind ≡ true → P log → P (fault_by task at n kind ∷ log))
+    → (n : ℕ) (olds news : List (ℕ × ℕ)) (log : Log) → P log → P (with_met task at n olds news log)
+met_keeps P task at step n [] news log was = was
+met_keeps P task at step n (o ∷ olds) [] log was = was
+met_keeps P task at step n (o ∷ olds) (w ∷ news) log was =
+    met_keeps P task at step (n + 1) olds news (fault_if task at n Stop o.1 w.1 (fault_if task at n Disk o.0 w.0 log))
+    (one (nat_lt o.1 w.1) Stop refl (fault_if task at n Disk o.0 w.0 log) (one (nat_lt o.0 w.0) Disk refl log was))
+  where
+    one : (b : Bool) (kind : FaultKind) → is_of_disk kind ≡ true → (log : Log) → P log → P (fault_on b task at n kind log)
+    one true kind disk log was = step n kind log disk was
+    one false kind disk log was = was
+
+-- whatever kind it is of
 pub met_has : (P : Log → Type 0) (task : Bool) (at : At) → ((n : ℕ) (kind : FaultKind) (log : Log) → P log → P (fault_by task at n kind ∷ log))
     → (n : ℕ) (olds news : List (ℕ × ℕ)) (log : Log) → P log → P (with_met task at n olds news log)
-met_has P task at step n [] news log was = was
-met_has P task at step n (o ∷ olds) [] log was = was
-met_has P task at step n (o ∷ olds) (w ∷ news) log was =
-    met_has P task at step (n + 1) olds news (fault_if task at n Stop o.1 w.1 (fault_if task at n Disk o.0 w.0 log))
-    (one (nat_lt o.1 w.1) Stop (fault_if task at n Disk o.0 w.0 log) (one (nat_lt o.0 w.0) Disk log was))
-  where
-    one : (b : Bool) (kind : FaultKind) (log : Log) → P log → P (fault_on b task at n kind log)
-    one true kind log was = step n kind log was
-    one false kind log was = was
+met_has P task at step n olds news log was = met_keeps P task at (λ m kind l disk held. step m kind l held) n olds news log was
 
--- all that is true of a cluster that runs, behind the faults that rose
+-- all that is true of a cluster that runs, behind a fault, and behind those that rose
 module _ {D : Type 0} (cells : D → Cells) (size : ℕ) (places : List (Option (NodePlace D))) (cut : Bool) (board : Board) where
+  pub fault_stands : (task : Bool) (at : At) (n : ℕ) (kind : FaultKind) (log : Log) → ClusterStands cells size places cut board log → ClusterStands cells size places cut board (fault_by task at n kind ∷ log)
+  fault_stands task at n kind log s = (fault_shows cells size places task log at n kind s.0, fault_files cells size places task log at n kind s.0 s.1, fault_merges cells size places task cut board log at n kind s.2)
+
   pub faulted : (task : Bool) (at : At) (n : ℕ) (olds news : List (ℕ × ℕ)) (log : Log) → ClusterStands cells size places cut board log → ClusterStands cells size places cut board (with_met task at n olds news log)
   faulted task at n olds news log was =
-      met_has (ClusterStands cells size places cut board) task at (λ m kind l s. (fault_shows cells size places task l at m kind s.0, fault_files cells size places task l at m kind s.0 s.1, fault_merges cells size places task cut board l at m kind s.2)) n olds news log was
+      met_has (ClusterStands cells size places cut board) task at (λ m kind l s. fault_stands task at m kind l s) n olds news log was

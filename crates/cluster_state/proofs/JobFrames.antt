@@ -246,7 +246,7 @@ out_kept n log i a number q leaves = step i leaves
 
     step : (i' : Inner) → leaves_job i' n ≡ true → file_out a n number q (kept i' ∷ log) ≡ file_out a n number q log
     step (JobBegun line m k v by) leaves = ap (λ (b : Bool). if b then None else file_out a n number q log) (apart by m k leaves)
-    step (FileOut line m k name source by) leaves = ap (λ (b : Bool). if b && same name q then Some source else file_out a n number q log) (apart by m k leaves)
+    step (FileOut line m k name source fate by) leaves = ap (λ (b : Bool). if b && same name q then Some source else file_out a n number q log) (apart by m k leaves)
     step i' leaves = refl
 
 -- an entry of inner work that is about no job at the node

@@ -1,3 +1,5 @@
+pub mod AtWork
+pub mod Behind
 pub mod BookLaws
 pub mod Disks
 pub mod Drawn
@@ -5,6 +7,7 @@ pub mod Ended
 pub mod Faulted
 pub mod FileFrames
 pub mod FileJobs
+pub mod FilesDue
 pub mod Frames
 pub mod Growing
 pub mod JobFrames
@@ -18,6 +21,9 @@ pub mod Living
 pub mod Mapped
 pub mod MergingPaths
 pub mod MergingStill
+pub mod MetFails
+pub mod MetLines
+pub mod MetStands
 pub mod Naming
 pub mod Planned
 pub mod PointStands
@@ -28,4 +34,5 @@ pub mod RestKept
 pub mod Rows
 pub mod SizesTold
 pub mod Turning
+mod WalkingBack
 pub mod Wider

@@ -148,7 +148,7 @@ module _ {D : Type 0} where
 -- ---- entries
 
 -- where no primary runs behind such an entry, none ran before it
-vacant_left : (e : Event) (p : Option NodeNo) → leaves_merges e p ≡ true → primary_by e p ≡ None → p ≡ None
+pub vacant_left : (e : Event) (p : Option NodeNo) → leaves_merges e p ≡ true → primary_by e p ≡ None → p ≡ None
 vacant_left (Promoted m g f v) p leaves none = absurd (cc)
 vacant_left (Crashed m) p leaves none = by (is_at p m.0) leaves none
   where

@@ -1,6 +1,6 @@
 -- A fault leaves what is planned at other nodes, and of other kinds; and a fault that rose stands in the log.
 use Rattle.std.proofs.Common.{◌≡◌, ◌≤◌, ◌<◌, ◌+◌, ◌==◌, ◌&&◌, ◌||◌, ℕ, Bool, true, false, true≢false, List, [], ◌∷◌, refl, ap, ◌∙◌, sym, subst, arith, if◌then◌else◌, nat_lt}
-use Rattle.std.proofs.lemmas.Bool.{eqb-true}
+use Rattle.std.proofs.lemmas.Bool.{eqb-true, or_right}
 use Rattle.std.proofs.lemmas.Bool.Decides.{nat_tests}
 use Rattle.nrt_base.specs.declared.numbers.At.{At}
 use Rattle.history_rules.specs.declared.cause.FaultKind.{FaultKind}
@@ -14,32 +14,35 @@ use Rattle.cluster_state.specs.Met.{fault_by, fault_on, fault_if, with_met, IsPl
 use Rattle.cluster_state.proofs.Faulted.{met_has}
 
 -- a node runs as before
-runs_on : (b : Bool) (at : At) (m n : ℕ) (met : FaultKind) (log : Log) → is_running n (printed (fault_on b false at m met log)) ≡ is_running n (printed log)
-runs_on true at m n met log = refl
-runs_on false at m n met log = refl
+runs_on : (task b : Bool) (at : At) (m n : ℕ) (met : FaultKind) (log : Log) → is_running n (printed (fault_on b task at m met log)) ≡ is_running n (printed log)
+runs_on true true at m n met log = refl
+runs_on false true at m n met log = refl
+runs_on task false at m n met log = refl
+
+neither : (b c : Bool) → (if b && false then c else c) ≡ c
+neither true c = refl
+neither false c = refl
 
 -- what is planned of another kind
-kept_on : (b : Bool) (at : At) (n : ℕ) (log : Log) → is_planned n Stop (printed (fault_on b false at n Disk log)) ≡ is_planned n Stop (printed log)
-kept_on true at n log = neither (n == n) (is_planned n Stop (printed log))
-  where
-    neither : (b c : Bool) → (if b && false then c else c) ≡ c
-    neither true c = refl
-    neither false c = refl
-kept_on false at n log = refl
+kept_on : (task b : Bool) (at : At) (n : ℕ) (log : Log) → is_planned n Stop (printed (fault_on b task at n Disk log)) ≡ is_planned n Stop (printed log)
+kept_on true true at n log = neither (n == n) (is_planned n Stop (printed log))
+kept_on false true at n log = neither (n == n) (is_planned n Stop (printed log))
+kept_on task false at n log = refl
 
-pub stop_over : (at : At) (n before now b0 w0 : ℕ) (log new : Log) → new ≡ fault_if false at n Disk b0 w0 log → IsPlannedIf n Stop before now (printed log) → IsPlannedIf n Stop before now (printed new)
-stop_over at n before now b0 w0 log new is planned rose = (
-  ap (λ (l : Log). is_planned n Stop (printed l)) is ∙ (kept_on (nat_lt b0 w0) at n log ∙ (planned rose).0),
-  ap (λ (l : Log). is_running n (printed l)) is ∙ (runs_on (nat_lt b0 w0) at n n Disk log ∙ (planned rose).1),
+pub stop_over : (task : Bool) (at : At) (n before now b0 w0 : ℕ) (log new : Log) → new ≡ fault_if task at n Disk b0 w0 log → IsPlannedIf n Stop before now (printed log) → IsPlannedIf n Stop before now (printed new)
+stop_over task at n before now b0 w0 log new is planned rose = (
+  ap (λ (l : Log). is_planned n Stop (printed l)) is ∙ (kept_on task (nat_lt b0 w0) at n log ∙ (planned rose).0),
+  ap (λ (l : Log). is_running n (printed l)) is ∙ (runs_on task (nat_lt b0 w0) at n n Disk log ∙ (planned rose).1),
 )
 
 -- and at another node
 away : (m n : ℕ) → m < n → (m == n) ≡ false
 away m n less = grind (arith, nat_tests, less)
 
-apart_on : (b : Bool) (at : At) (m n : ℕ) (met kind : FaultKind) (log : Log) → m < n → is_planned n kind (printed (fault_on b false at m met log)) ≡ is_planned n kind (printed log)
-apart_on true at m n met kind log less = ap (λ (c : Bool). if c && same_kind met kind then same_kind Stop kind && is_planned n kind (printed log) else is_planned n kind (printed log)) (away m n less)
-apart_on false at m n met kind log less = refl
+apart_on : (task b : Bool) (at : At) (m n : ℕ) (met kind : FaultKind) (log : Log) → m < n → is_planned n kind (printed (fault_on b task at m met log)) ≡ is_planned n kind (printed log)
+apart_on true true at m n met kind log less = ap (λ (c : Bool). if c && same_kind met kind then same_kind Stop kind && is_planned n kind (printed log) else is_planned n kind (printed log)) (away m n less)
+apart_on false true at m n met kind log less = ap (λ (c : Bool). if c && same_kind met kind then same_kind Stop kind && is_planned n kind (printed log) else is_planned n kind (printed log)) (away m n less)
+apart_on task false at m n met kind log less = refl
 
 planned_past : (n : ℕ) (olds news : List (ℕ × ℕ)) (past now : Past) → ((k : ℕ) (kind : FaultKind) → n ≤ k → is_planned k kind now ≡ is_planned k kind past) → ((k : ℕ) → is_running k now ≡ is_running k past)
     → ArePlanned n olds news past → ArePlanned n olds news now
@@ -50,33 +53,29 @@ planned_past n (o ∷ olds) (w ∷ news) past now same runs was = (
   planned_past (n + 1) olds news past now (λ k kind low. same k kind (omega (arith, low))) runs was.1,
 )
 
-pub rest_over : (at : At) (n : ℕ) (olds news : List (ℕ × ℕ)) (a b c d : ℕ) (log new : Log) → new ≡ fault_if false at n Stop a b (fault_if false at n Disk c d log) → ArePlanned (n + 1) olds news (printed log) → ArePlanned (n + 1) olds news (printed new)
-rest_over at n olds news a b c d log new is was =
+pub rest_over : (task : Bool) (at : At) (n : ℕ) (olds news : List (ℕ × ℕ)) (a b c d : ℕ) (log new : Log) → new ≡ fault_if task at n Stop a b (fault_if task at n Disk c d log) → ArePlanned (n + 1) olds news (printed log) → ArePlanned (n + 1) olds news (printed new)
+rest_over task at n olds news a b c d log new is was =
     subst (λ (l : Log). ArePlanned (n + 1) olds news (printed l)) (sym is)
-    (planned_past (n + 1) olds news (printed log) (printed (fault_if false at n Stop a b (fault_if false at n Disk c d log)))
-    (λ k kind low. apart_on (nat_lt a b) at n k Stop kind (fault_if false at n Disk c d log) (omega (arith, low)) ∙ apart_on (nat_lt c d) at n k Disk kind log (omega (arith, low)))
-    (λ k. runs_on (nat_lt a b) at n k Stop (fault_if false at n Disk c d log) ∙ runs_on (nat_lt c d) at n k Disk log) was)
+    (planned_past (n + 1) olds news (printed log) (printed (fault_if task at n Stop a b (fault_if task at n Disk c d log)))
+    (λ k kind low. apart_on task (nat_lt a b) at n k Stop kind (fault_if task at n Disk c d log) (omega (arith, low)) ∙ apart_on task (nat_lt c d) at n k Disk kind log (omega (arith, low)))
+    (λ k. runs_on task (nat_lt a b) at n k Stop (fault_if task at n Disk c d log) ∙ runs_on task (nat_lt c d) at n k Disk log) was)
 
 -- one node more
-pub next_met : (at : At) (i : ℕ) (olds news olds' news' : List (ℕ × ℕ)) (o w : ℕ × ℕ) (log new was : Log) → olds ≡ o ∷ olds' → news ≡ w ∷ news' → new ≡ fault_if false at i Stop o.1 w.1 (fault_if false at i Disk o.0 w.0 log)
-    → with_met false at i olds news log ≡ was → ArePlanned i olds news (printed log) → (with_met false at (i + 1) olds' news' new ≡ was) × ArePlanned (i + 1) olds' news' (printed new)
-next_met at i olds news olds' news' o w log new was first second is same planned = (
-  ap (λ (l : Log). with_met false at (i + 1) olds' news' l) is ∙ ((λ j. with_met false at i (sym first j) (sym second j) log) ∙ same),
-  rest_over at i olds' news' o.1 w.1 o.0 w.0 log new is (subst (λ (z : List (ℕ × ℕ) × List (ℕ × ℕ)). ArePlanned i z.0 z.1 (printed log)) (λ j. (first j, second j)) planned).1,
+pub next_met : (task : Bool) (at : At) (i : ℕ) (olds news olds' news' : List (ℕ × ℕ)) (o w : ℕ × ℕ) (log new was : Log) → olds ≡ o ∷ olds' → news ≡ w ∷ news' → new ≡ fault_if task at i Stop o.1 w.1 (fault_if task at i Disk o.0 w.0 log)
+    → with_met task at i olds news log ≡ was → ArePlanned i olds news (printed log) → (with_met task at (i + 1) olds' news' new ≡ was) × ArePlanned (i + 1) olds' news' (printed new)
+next_met task at i olds news olds' news' o w log new was first second is same planned = (
+  ap (λ (l : Log). with_met task at (i + 1) olds' news' l) is ∙ ((λ j. with_met task at i (sym first j) (sym second j) log) ∙ same),
+  rest_over task at i olds' news' o.1 w.1 o.0 w.0 log new is (subst (λ (z : List (ℕ × ℕ) × List (ℕ × ℕ)). ArePlanned i z.0 z.1 (printed log)) (λ j. (first j, second j)) planned).1,
 )
 
 -- ---- a fault that rose stands there
-
-or_true : (b c : Bool) → c ≡ true → (b || c) ≡ true
-or_true true c is = refl
-or_true false c is = is
 
 -- the line has met a fault of a disk at the node
 abbrev pub HasMet : At → ℕ → Log → Type 0
 HasMet at p log = has_fault (λ m. p == m) is_of_disk at (printed log) ≡ true
 
 stays_met : (at : At) (p n : ℕ) (kind : FaultKind) (log : Log) → HasMet at p log → HasMet at p (fault_by false at n kind ∷ log)
-stays_met at p n kind log was = or_true (((p == n) && is_of_disk kind) && same_at at at) (has_fault (λ m. p == m) is_of_disk at (printed log)) was
+stays_met at p n kind log was = or_right (((p == n) && is_of_disk kind) && same_at at at) (has_fault (λ m. p == m) is_of_disk at (printed log)) was
 
 on_met : (b : Bool) (at : At) (p n : ℕ) (kind : FaultKind) (log : Log) → HasMet at p log → HasMet at p (fault_on b false at n kind log)
 on_met true at p n kind log was = stays_met at p n kind log was

@@ -20,7 +20,7 @@ use Rattle.cluster_nodes.specs.Changes.{KeepsNode}
 use Rattle.cluster_nodes.specs.Given.{merge_sizes}
 use Rattle.cluster_nodes.specs.Places.{place_of, unwrapped}
 use Rattle.cluster_state.specs.Run.{Rest, Run, KeepsRest}
-use Rattle.cluster_state.specs.CallsLeft.{stage_calls, place_calls, calls_in}
+use Rattle.cluster_state.specs.CallsLeft.{stage_calls, place_calls, with_own, calls_in}
 use Rattle.cluster_state.specs.JobsIn.{job_files, place_files, jobs_in}
 use Rattle.cluster_state.specs.MergedCopies.{told_copy, place_copies, copies_in}
 use Rattle.cluster_state.specs.Sizes.{sizes_in}
@@ -63,7 +63,7 @@ module _ {D : Type 0} where
       by (Replica r) rest = rest
       by (Down d) rest = rest
 
-  map_same : {X : Type 0} (f : Option (NodePlace D) → X) (old new : List (Option (NodePlace D))) → length new ≡ length old → ((k : ℕ) → f (unwrapped (slice_get new k)) ≡ f (unwrapped (slice_get old k))) → map f new ≡ map f old
+  pub map_same : {X : Type 0} (f : Option (NodePlace D) → X) (old new : List (Option (NodePlace D))) → length new ≡ length old → ((k : ℕ) → f (unwrapped (slice_get new k)) ≡ f (unwrapped (slice_get old k))) → map f new ≡ map f old
   map_same f [] [] count same = refl
   map_same f [] (y ∷ new) count same = absurd (omega (arith, count))
   map_same f (x ∷ old) [] count same = absurd (omega (arith, count))
@@ -115,14 +115,14 @@ module _ {D : Type 0} where
 
 module _ {D : Type 0} (cells : D → Cells) where
   -- one place was taken out of its number, and another that tells the same was put there
-  pub put_keeps : (r : Run) (b0 b1 b2 : Sheet) (board : Board) (old mid new : List (Option (NodePlace D))) (n : ℕ) (x y : NodePlace D) {ended : Bool} {plans later : List Plans}
-      → record { ended = ended; nodes = b0.nodes; log = b0.log; rest = record { calls_left = calls_in old; cut = b0.cut; sizes = sizes_in old; jobs = jobs_in old; copies = copies_in old; tasks = board; plans = plans } } ≡ r
+  pub put_keeps : (r : Run) (b0 b1 b2 : Sheet) (board : Board) (carries : List Bool) (old mid new : List (Option (NodePlace D))) (n : ℕ) (x y : NodePlace D) {ended : Bool} {plans later : List Plans}
+      → record { ended = ended; nodes = b0.nodes; log = b0.log; rest = record { calls_left = calls_in carries old; cut = b0.cut; sizes = sizes_in old; jobs = jobs_in old; copies = copies_in old; tasks = board; plans = plans } } ≡ r
       → b1.cut ≡ b0.cut → b2.cut ≡ b1.cut → PutsBack cells old mid new n x → place_of old n ≡ Some y → TellsSame (Some y) (Some x)
-      → record { calls_left = calls_in new; cut = b2.cut; sizes = sizes_in new; jobs = jobs_in new; copies = copies_in new; tasks = board; plans = later } ≡ record r.rest { plans = later }
-  put_keeps r b0 b1 b2 board old mid new n x y {ended} {plans} {later} view c1 c2 put there same =
-      kept_rest r (record { calls_left = calls_in old; cut = b0.cut; sizes = sizes_in old; jobs = jobs_in old; copies = copies_in old; tasks = board; plans = plans })
-      (record { calls_left = calls_in new; cut = b2.cut; sizes = sizes_in new; jobs = jobs_in new; copies = copies_in new; tasks = board; plans = later })
-      view (each place_calls same.calls) (c2 ∙ c1) (sizes_first new ∙ (ap first_sizes (each place_sizes same.sizes) ∙ sym (sizes_first old))) (each place_files same.files) (each place_copies same.copies) refl
+      → record { calls_left = calls_in carries new; cut = b2.cut; sizes = sizes_in new; jobs = jobs_in new; copies = copies_in new; tasks = board; plans = later } ≡ record r.rest { plans = later }
+  put_keeps r b0 b1 b2 board carries old mid new n x y {ended} {plans} {later} view c1 c2 put there same =
+      kept_rest r (record { calls_left = calls_in carries old; cut = b0.cut; sizes = sizes_in old; jobs = jobs_in old; copies = copies_in old; tasks = board; plans = plans })
+      (record { calls_left = calls_in carries new; cut = b2.cut; sizes = sizes_in new; jobs = jobs_in new; copies = copies_in new; tasks = board; plans = later })
+      view (ap (with_own carries) (each place_calls same.calls)) (c2 ∙ c1) (sizes_first new ∙ (ap first_sizes (each place_sizes same.sizes) ∙ sym (sizes_first old))) (each place_files same.files) (each place_copies same.copies) refl
     where
       at_place : {X : Type 0} (f : Option (NodePlace D) → X) → f (Some x) ≡ f (Some y) → (m : ℕ) → f (place_of new m) ≡ f (place_of old m)
       at_place f is m =

@@ -28,6 +28,7 @@ use Rattle.cluster_state.specs.declared.turn.Turn.TheVariants.{Work, Done, Busy}
 use Rattle.cluster_state.specs.Run.{Run, IsNow}
 use Rattle.cluster_state.specs.State.{ReadsAt}
 use Rattle.cluster_state.specs.Writes.{IsFull, HandsFlush}
+use Rattle.cluster_state.specs.GivesUp.{met_log}
 
 -- the refusal that holds, or what the line does
 abbrev pub by_refusal : Option Cause → Event → Event
@@ -118,10 +119,10 @@ ScansAt past e query answer = ⊥
 abbrev pub answer_event : Past → Past → Event → NodeNo → TicketNo → Version → Query → Answer → Event
 answer_event past start begun n t v query answer = if is_lost past start begun then Refused Lost else Answered n t v query answer
 
--- a search that has started ends so
+-- a search that has started ends so, behind the faults of disks that giving its point back met
 abbrev pub AnswerEnds : At → Option Event → Query → Answer → Run → Run → Type 0
 AnswerEnds at (Some (Opened n t v)) query answer old new = let past = printed old.log in
-    IsNow old new (shown at (answer_event past (before_start at past) (Opened n t v) n t v query answer) ∷ old.log)
+    IsNow old new (shown at (answer_event past (before_start at past) (Opened n t v) n t v query answer) ∷ met_log at old new)
 AnswerEnds at (Some (Asking n t v)) query answer old new = let past = printed old.log in
-    IsNow old new (shown at (answer_event past (before_start at past) (Asking n t v) n t v query answer) ∷ old.log)
+    IsNow old new (shown at (answer_event past (before_start at past) (Asking n t v) n t v query answer) ∷ met_log at old new)
 AnswerEnds at e query answer old new = ⊥

@@ -8,7 +8,9 @@ use Rattle.disk_model.specs.Disk.{Name, same, is_among}
 use Rattle.codec_frame.specs.Checking.{HasFooter}
 use Rattle.copy_state.specs.Meta.{IsMetaOf}
 use Rattle.history_rules.specs.declared.entry.Event.{Event}
-use Rattle.history_rules.specs.declared.entry.Event.TheVariants.{Copying, Switched, Copied}
+use Rattle.history_rules.specs.declared.entry.Event.TheVariants.{Copying, Switched, Copied, Refused}
+use Rattle.history_rules.specs.declared.cause.Cause.{Cause}
+use Rattle.history_rules.specs.declared.cause.Cause.TheVariants.{DiskFault}
 use Rattle.history_rules.specs.Nodes.{Past, generation_of, newest_version}
 use Rattle.history_rules.specs.Lines.{start_entry, highest_switched, NodeSurvives, SourceSurvives}
 use Rattle.history_rules.specs.Started.{is_copy}
@@ -17,10 +19,12 @@ use Rattle.history_tables.specs.declared.jobs.Job.{Job}
 use Rattle.history_tables.specs.Begins.{open_line}
 use Rattle.history_book.specs.Log.{Log, printed, shown, kept}
 use Rattle.history_book.specs.Jobs.{job_of}
+use Rattle.link_model.specs.declared.fate.Fate.TheVariants.{Whole}
 use Rattle.history_book.specs.declared.inner.Inner.TheVariants.{JobBegun, FileOut, JobEnd}
 use Rattle.cluster_nodes.specs.declared.tasks.CopyTask.{CopyTask}
 use Rattle.cluster_nodes.specs.declared.tasks.FileTask.{FileTask}
 use Rattle.cluster_state.specs.Run.{JobFiles, Run, files_at, IsNow}
+use Rattle.cluster_state.specs.GivesUp.{met_log}
 
 -- the newest version
 abbrev pub newest_of : Past → Version
@@ -68,9 +72,9 @@ abbrev pub IsFirstOf : List Name → Name → Type 0
 IsFirstOf [] q = ⊥
 IsFirstOf (p ∷ ps) q = p ≡ q
 
--- a file was handed out to the job, the first that it lacks, with its metadata; it ends in a footer
+-- a file was handed out to the job, the first that it lacks, with its metadata, behind the faults of disks that were met; it ends in a footer
 pub record HandsFile (job : Job) (old new : Run) (file : FileTask) : Type 0 where
-  pub now : IsNow old new (kept (FileOut job.at.line job.node job.number file.name file.source (Some job.at)) ∷ old.log)
+  pub now : IsNow old new (kept (FileOut job.at.line job.node job.number file.name file.source Whole (Some job.at)) ∷ met_log job.at old new)
   pub first : IsFirstOf (files_at job.node.0 old).missing file.name
   pub files : files_at job.node.0 new ≡ files_at job.node.0 old
   pub meta : IsMetaOf file.source file.meta
@@ -94,7 +98,19 @@ ended_log job (Some (Copying n v)) log =
     kept (JobEnd job.at.line job.node job.number) ∷ shown job.at (Copied n v) ∷ shown job.at (Switched job.node job.version) ∷ log
 ended_log job begun log = kept (JobEnd job.at.line job.node job.number) ∷ shown job.at (Switched job.node job.version) ∷ log
 
--- a job goes on: the next file is handed out, or none is missing and it has ended
+-- a job goes on: the next file is handed out, or none is missing and it has ended, behind the faults of disks that it met
 abbrev pub GoesOn : Job → Run → Run → Option FileTask → Type 0
 GoesOn job old new (Some file) = HandsFile job old new file
-GoesOn job old new None = IsNow old new (ended_log job (start_entry job.at (printed old.log)) old.log)
+GoesOn job old new None = IsNow old new (ended_log job (start_entry job.at (printed old.log)) (met_log job.at old new))
+
+-- the line of a job was refused for this cause, behind the faults of disks that it met, and the job has ended; its node keeps the files that
+-- it has brought over for the next one
+pub record JobRefused (job : Job) (cause : Cause) (old new : Run) : Type 0 where
+  pub now : IsNow old new (kept (JobEnd job.at.line job.node job.number) ∷ shown job.at (Refused cause) ∷ met_log job.at old new)
+  pub files : files_at job.node.0 new ≡ files_at job.node.0 old
+
+-- a line was refused as the disk of its source failed, behind these entries: no job began at the node, and the one that is there has the
+-- files that it had
+pub record BeginsNoJob (at : At) (n : NodeNo) (old new : Run) (log : Log) : Type 0 where
+  pub now : IsNow old new (shown at (Refused DiskFault) ∷ log)
+  pub files : files_at n.0 new ≡ files_at n.0 old

@@ -1,12 +1,12 @@
 -- What the calls of lines that copy and settle do: the entries that they add, and what they hand out.
-use Rattle.std.specs.Prelude.{ℕ, ◌≡◌, ◌≢◌, ◌≤◌, ◌<◌, ◌∷◌, ◌==◌, Bool, true, false, not, if◌then◌else◌, List, Option, Some, None, IsSomeAnd, ⊤}
+use Rattle.std.specs.Prelude.{ℕ, ◌≡◌, ◌≢◌, ◌≤◌, ◌<◌, ◌∷◌, ◌==◌, Bool, true, false, not, if◌then◌else◌, List, Option, Some, None, IsSomeAnd, ⊤, ◌⊎◌}
 use Rattle.std.specs.List.{All}
 use Rattle.nrt_base.specs.declared.numbers.At.{At}
 use Rattle.nrt_base.specs.declared.numbers.NodeNo.{NodeNo}
 use Rattle.nrt_base.specs.declared.numbers.Version.{Version}
 use Rattle.disk_model.specs.Disk.{Name}
 use Rattle.history_rules.specs.declared.cause.Cause.{Cause}
-use Rattle.history_rules.specs.declared.cause.Cause.TheVariants.{Lost, Cancelled}
+use Rattle.history_rules.specs.declared.cause.Cause.TheVariants.{Lost, Cancelled, DiskFault}
 use Rattle.history_rules.specs.declared.entry.Event.{Event}
 use Rattle.history_rules.specs.declared.entry.Event.TheVariants.{Copying, Copied, Settling, Settled, Refused}
 use Rattle.history_rules.specs.Legal.{KeepsRule}
@@ -26,7 +26,8 @@ use Rattle.cluster_nodes.specs.declared.tasks.CopyTask.{CopyTask}
 use Rattle.cluster_nodes.specs.declared.tasks.FileTask.{FileTask}
 use Rattle.cluster_nodes.specs.declared.tasks.SettleTask.{SettleTask}
 use Rattle.cluster_state.specs.Run.{Run, files_at, IsNow}
-use Rattle.cluster_state.specs.Copies.{newest_of, JobRuns, BeginsJob, BringsFile, GoesOn}
+use Rattle.cluster_state.specs.Copies.{newest_of, JobRuns, BeginsJob, BeginsNoJob, BringsFile, GoesOn, JobRefused}
+use Rattle.cluster_state.specs.GivesUp.{met_log}
 use Rattle.cluster_state.specs.Settles.{IsSettling, WaitsFor}
 use Rattle.cluster_state.specs.declared.standing.Standing.{Standing}
 use Rattle.cluster_state.specs.declared.standing.Standing.TheVariants.{Runs, Passed, Ends}
@@ -42,11 +43,19 @@ CopiesFor command begun = ⊥
 
 -- ---- copies
 
--- a copy was refused for the cause that holds, or had nothing to do
+-- the entries before those of a copy's end: it started, behind the faults of disks that it met
+abbrev pub copying_log : At → NodeNo → Run → Run → Log
+copying_log at n old new = shown at (Copying n (newest_of (printed old.log))) ∷ met_log at old new
+
+-- a copy had nothing to do where its node searches the newest version, or else the disk of its source failed
+abbrev pub CopyEnds : Bool → At → NodeNo → Run → Run → Type 0
+CopyEnds true at n old new = IsNow old new (shown at (Copied n (newest_of (printed old.log))) ∷ shown at (Copying n (newest_of (printed old.log))) ∷ old.log)
+CopyEnds false at n old new = BeginsNoJob at n old new (copying_log at n old new)
+
+-- a copy was refused for the cause that holds, or it ended at once
 abbrev pub CopyAnswered : At → NodeNo → Option Cause → Run → Run → Type 0
 CopyAnswered at n (Some cause) old new = LineRefused at cause old new
-CopyAnswered at n None old new =
-    IsNow old new (shown at (Copied n (newest_of (printed old.log))) ∷ shown at (Copying n (newest_of (printed old.log))) ∷ old.log)
+CopyAnswered at n None old new = CopyEnds (version_of n.0 (printed old.log) == newest_version (printed old.log)) at n old new
 
 -- the job that runs at the node is not for an older version than the newest
 abbrev pub IsUpToDate : ℕ → Log → Type 0
@@ -54,7 +63,7 @@ IsUpToDate n log = IsOlder (newest_version (printed log)) (job_at n log) → ⊥
 
 -- a copy starts: a job begins, it is answered at once, or waits while a job for the newest version runs at the node
 abbrev pub CopyStarts : At → NodeNo → Run → Run → Turn CopyTask → Type 0
-CopyStarts at n old new (Work task) = BeginsJob at n old new (shown at (Copying n (newest_of (printed old.log))) ∷ old.log) task
+CopyStarts at n old new (Work task) = BeginsJob at n old new (copying_log at n old new) task
 CopyStarts at n old new Done = CopyAnswered at n (refusal (Copy n) at.lane.0 (printed old.log)) old new
 CopyStarts at n old new Busy = (new ≡ old) × IsUpToDate n.0 old.log
 
@@ -79,10 +88,10 @@ pub record IsBehind (at : At) (n : NodeNo) (past : Past) : Type 0 where
   pub behind : version_of n.0 past < newest_version past
 
 -- When a copy starts so: a job begins and it waits only at a node that is behind; it waits exactly where a job for the newest version
--- runs there, and it is answered without a refusal only where the node is not behind.
+-- runs there, and does not end where it would wait.
 abbrev pub CopyStartsWhen : At → NodeNo → Log → Turn CopyTask → Type 0
 CopyStartsWhen at n log (Work task) = IsBehind at n (printed log) × IsNotBeingCopied log n.0
-CopyStartsWhen at n log Done = refusal (Copy n) at.lane.0 (printed log) ≡ None → version_of n.0 (printed log) ≡ newest_version (printed log)
+CopyStartsWhen at n log Done = IsBehind at n (printed log) → IsNotBeingCopied log n.0
 CopyStartsWhen at n log Busy = IsBehind at n (printed log) × IsBeingCopied log n.0
 
 -- ---- jobs
@@ -145,10 +154,10 @@ Stops None row old new stopped = (stopped ≡ false) × RunsOn row old new
 abbrev pub StopsTurn : {W : Type 0} → Log → Run → Run → Turn W → Type 0
 StopsTurn log old new turn = (turn ≡ Done) × IsNow old new log
 
--- a job that runs goes on: the next file is handed out, or none is missing and it has ended
+-- a job that runs goes on: the next file is handed out, or none is missing and it has ended, or a disk failed
 abbrev pub JobGoesOn : Job → Run → Run → Turn FileTask → Type 0
 JobGoesOn job old new (Work file) = GoesOn job old new (Some file)
-JobGoesOn job old new Done = GoesOn job old new None
+JobGoesOn job old new Done = GoesOn job old new None ⊎ JobRefused job DiskFault old new
 JobGoesOn job old new Busy = ⊥
 
 -- the next step of a job: it was stopped, or it goes on
@@ -156,14 +165,16 @@ abbrev pub JobSteps : Option Log → Job → Run → Run → Turn FileTask → T
 JobSteps (Some log) job old new turn = StopsTurn log old new turn
 JobSteps None job old new turn = JobGoesOn job old new turn
 
--- a job that runs at the node has the file of this name now, and all that happened is as before
-abbrev pub JobHasPart : NodeNo → Name → Run → Run → Turn (Unit {0}) → Type 0
-JobHasPart n name old new turn = (turn ≡ Work tt) × IsNow old new old.log × BringsFile name (files_at n.0 old) (files_at n.0 new)
+-- a job that runs has the file of this name now, and nothing was added but the faults of disks that were met; or a disk failed
+abbrev pub JobTakes : Job → Name → Run → Run → Turn (Unit {0}) → Type 0
+JobTakes job name old new (Work done) = IsNow old new (met_log job.at old new) × BringsFile name (files_at job.node.0 old) (files_at job.node.0 new)
+JobTakes job name old new Done = JobRefused job DiskFault old new
+JobTakes job name old new Busy = ⊥
 
--- a part arrives: its job was stopped, or has the part
-abbrev pub PartArrives : NodeNo → Name → Option Log → Run → Run → Turn (Unit {0}) → Type 0
-PartArrives n name (Some log) old new turn = StopsTurn log old new turn
-PartArrives n name None old new turn = JobHasPart n name old new turn
+-- a part arrives: its job was stopped, or takes the part
+abbrev pub PartArrives : Job → Name → Option Log → Run → Run → Turn (Unit {0}) → Type 0
+PartArrives job name (Some log) old new turn = StopsTurn log old new turn
+PartArrives job name None old new turn = JobTakes job name old new turn
 
 -- none of these nodes is below this one
 abbrev pub AreFrom : NodeNo → List NodeNo → Type 0
@@ -188,12 +199,23 @@ pub record SettleWaits (at : At) (left : SettleTask) (old : Run) (n : NodeNo) : 
   pub waits : WaitsFor old.nodes (printed old.log) at left.version.0 n
   pub first : AreFrom n left.left.items
 
+-- the line of a settle is answered
+abbrev pub SettleEnds : At → Run → Run → SettleTask → Type 0
+SettleEnds at old new left = (e : Event) × IsNow old new (shown at e ∷ old.log) × (e ≡ settle_end_event at left.version (printed old.log))
+
+-- a settle was refused as the disk of its source failed, where a job was to begin at the first replica that it waits for
+pub record SettleFails (at : At) (old new : Run) (left : SettleTask) : Type 0 where
+  pub n : NodeNo
+  pub begins : BeginsNoJob at n old new (met_log at old new)
+  pub waits : SettleWaits at left old n
+  pub free : IsNotBeingCopied old.log n.0
+
 -- a settle goes on: the job of the first replica that it waits for begins, where none for the newest version runs there, or it waits
--- while one does, or its line is answered
+-- while one does, or its line is answered, or a disk failed
 abbrev pub SettleGoesOn : At → Run → Run → SettleTask → Turn CopyTask → Type 0
-SettleGoesOn at old new left (Work task) = BeginsJob at task.node old new old.log task × IsSettling new.nodes (printed new.log) at left × SettleWaits at left old task.node
+SettleGoesOn at old new left (Work task) = BeginsJob at task.node old new (met_log at old new) task × IsSettling new.nodes (printed new.log) at left × SettleWaits at left old task.node
     × IsNotBeingCopied old.log task.node.0
-SettleGoesOn at old new left Done = (e : Event) × IsNow old new (shown at e ∷ old.log) × (e ≡ settle_end_event at left.version (printed old.log))
+SettleGoesOn at old new left Done = SettleEnds at old new left ⊎ SettleFails at old new left
 SettleGoesOn at old new left Busy = (new ≡ old) × ((n : NodeNo) × IsUpToDate n.0 old.log × IsBeingCopied old.log n.0 × SettleWaits at left old n)
 
 -- while the line has no reply it settles on with what was left

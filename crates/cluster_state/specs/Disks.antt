@@ -1,5 +1,5 @@
 -- What the disks of a cluster's nodes have to do with its log: which versions their commits are of, and what a crash left.
-use Rattle.std.specs.Prelude.{ℕ, ◌≡◌, ◌≤◌, ◌<◌, List, [], length, Option, Some, None, IfSome, IsSomeAnd, is_some, true, Contains, ⊤}
+use Rattle.std.specs.Prelude.{ℕ, ◌≡◌, ◌≤◌, ◌<◌, List, [], length, Option, Some, None, IfSome, IsSomeAnd, is_some, true, false, Contains, ⊤}
 use Rattle.std.specs.List.{All, flat_map}
 use Rattle.nrt_base.specs.declared.numbers.At.{At}
 use Rattle.nrt_base.specs.declared.numbers.NodeNo.{NodeNo}
@@ -19,7 +19,7 @@ use Rattle.history_rules.specs.declared.entry.Event.TheVariants.{Committing}
 use Rattle.history_rules.specs.Nodes.{Past, IsNode, generation_of, newest_version}
 use Rattle.history_rules.specs.Lines.{start_entry, commit_in_flight}
 use Rattle.history_rules.specs.Points.{documents_at}
-use Rattle.history_rules.specs.Commits.{has_committed}
+use Rattle.history_rules.specs.Commits.{has_committed, is_stuck}
 use Rattle.history_rules.specs.Tasks.{merge_count}
 use Rattle.history_book.specs.Laws.{may_find}
 use Rattle.history_book.specs.Log.{Log, printed}
@@ -51,16 +51,23 @@ abbrev pub LastShows : (Name → Content) → Past → ℕ → Option Commit →
 LastShows source past n None = may_find n 1 past ≡ true
 LastShows source past n (Some c) = MayFindPoint source past n c.infos
 
--- the commit of the line is such a point, of the version of its start
+-- the commit of the line is such a point, of the version of its start where the node is not stuck
 pub record CommitsPoint (source : Name → Content) (past : Past) (n : ℕ) (at : At) (c : Commit) : Type 0 where
   pub point : MayFindPoint source past n c.infos
-  pub started : (m : NodeNo) (v : Version) → start_entry at past ≡ Some (Committing m v) → c.infos.version.0 ≡ v.0
+  pub started : is_stuck n past ≡ false → (m : NodeNo) (v : Version) → start_entry at past ≡ Some (Committing m v) → c.infos.version.0 ≡ v.0
 
--- the commit in flight at the node is the one that the history shows
+-- a commit that no line has in flight is such a point, and a fault of a disk refused a commit of the node
+pub record StopsPoint (source : Name → Content) (past : Past) (n : ℕ) (c : Commit) : Type 0 where
+  pub point : MayFindPoint source past n c.infos
+  pub stuck : is_stuck n past ≡ true
+
+-- The commit in flight at the node is that of the line which the history shows. Or it was stopped: no line has it in flight, or the
+-- line's own is still to begin.
 abbrev pub StageShows : (Name → Content) → Past → ℕ → Option At → Option Stage → Type 0
 StageShows source past n None None = ⊤
+StageShows source past n None (Some stage) = StopsPoint source past n (commit_of stage)
 StageShows source past n (Some at) (Some stage) = CommitsPoint source past n at (commit_of stage)
-StageShows source past n at stage = ⊥
+StageShows source past n (Some at) None = is_stuck n past ≡ true
 
 -- the commits of a running node
 pub record BookShows (source : Name → Content) (past : Past) (n : ℕ) (book : CommitBook) : Type 0 where
@@ -102,11 +109,12 @@ pub record PointsStay (past now : Past) : Type 0 where
   pub merges : merge_count past ≤ merge_count now
   pub documents : (v : ℕ) → v ≤ newest_version past → documents_at now v ≡ documents_at past v
 
--- what the commits of a node rest on: points are what they were, versions that a reopening may find are more, and the commit in flight
--- is the one that was
+-- what the commits of a node rest on: points are what they were, versions that a reopening may find are more, the commit in flight
+-- is the one that was, and a stuck node stays so
 pub record CommitsStay (past now : Past) (n : ℕ) : Type 0 where
   pub points : PointsStay past now
   pub found : (v : ℕ) → may_find n v past ≡ true → may_find n v now ≡ true
   pub committed : has_committed n now ≡ has_committed n past
   pub flight : commit_in_flight n now ≡ commit_in_flight n past
   pub start : (at : At) → commit_in_flight n past ≡ Some at → start_entry at now ≡ start_entry at past
+  pub stuck : is_stuck n past ≡ true → is_stuck n now ≡ true

@@ -42,7 +42,7 @@ keeps_commits e n = true
 -- the entry of inner work is about no job at the node
 abbrev pub leaves_job : Inner → ℕ → Bool
 leaves_job (JobBegun line m number v by) n = not (m.0 == n)
-leaves_job (FileOut line m number name source by) n = not (m.0 == n)
+leaves_job (FileOut line m number name source fate by) n = not (m.0 == n)
 leaves_job (JobEnd line m number) n = not (m.0 == n)
 leaves_job i n = true
 

@@ -15,7 +15,6 @@ use Rattle.history_rules.specs.Lines.{before_start}
 use Rattle.history_rules.specs.Started.{is_lost}
 use Rattle.history_book.specs.Log.{Log, printed, shown}
 use Rattle.cluster_state.specs.Run.{Run, IsNow}
-use Rattle.cluster_state.specs.Calls.{LineRefused}
 use Rattle.cluster_state.specs.Met.{failures_by_plan, with_met}
 
 -- The primary gave up what it was writing: it holds nothing more, and what came to stand has names of its own segments.
@@ -37,13 +36,17 @@ publish_reply false past = Refused DiskFault
 abbrev pub met_log : At → Run → Run → Log
 met_log at old new = with_met false at 1 (map failures_by_plan old.rest.plans) (map failures_by_plan new.rest.plans) old.log
 
+-- the same of a task of the merge that this line started
+abbrev pub task_met_log : At → Run → Run → Log
+task_met_log line old new = with_met true line 1 (map failures_by_plan old.rest.plans) (map failures_by_plan new.rest.plans) old.log
+
 -- a publish has ended, with its point or given up, behind the faults of disks that it met
 pub record PublishEnds (at : At) (old new : Run) (published : Bool) : Type 0 where
   pub now : IsNow old new (shown at (publish_reply published (printed old.log)) ∷ met_log at old new)
 
 -- a publish has ended, by whether its line is lost
 abbrev pub PublishEndsBy : Bool → At → Run → Run → Type 0
-PublishEndsBy true at old new = LineRefused at Lost old new
+PublishEndsBy true at old new = IsNow old new (shown at (Refused Lost) ∷ old.log)
 PublishEndsBy false at old new = (published : Bool) × PublishEnds at old new published
 
 -- how a publish ends: its line is lost exactly where the primary has crashed since its start; else its point is there, or it was given up

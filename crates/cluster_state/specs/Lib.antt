@@ -3,6 +3,7 @@ pub mod CallsLeft
 pub mod Copies
 pub mod CopyCalls
 pub mod Disks
+pub mod DueFaults
 pub mod FileChanges
 pub mod Files
 pub mod FilesOut

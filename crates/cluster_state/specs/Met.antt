@@ -11,7 +11,9 @@ use Rattle.history_rules.specs.declared.cause.FaultKind.{FaultKind}
 use Rattle.history_rules.specs.declared.cause.FaultKind.TheVariants.{Disk, Stop}
 use Rattle.history_rules.specs.declared.entry.Event.TheVariants.{Fault}
 use Rattle.history_rules.specs.Nodes.{Past, is_running}
+use Rattle.history_rules.specs.Lines.{last_of_line, is_answered}
 use Rattle.history_rules.specs.Faults.{is_planned}
+use Rattle.history_rules.specs.Rules.{is_merging}
 use Rattle.history_book.specs.Log.{Log, mark_for}
 use Rattle.history_book.specs.declared.inner.Mark.{Mark}
 use Rattle.cluster_nodes.specs.declared.nodes.NodePlace.{NodePlace}
@@ -40,6 +42,11 @@ with_met task at n (o ∷ olds) [] log = log
 with_met task at n (o ∷ olds) (w ∷ news) log =
     with_met task at (n + 1) olds news (fault_if task at n Stop o.1 w.1 (fault_if task at n Disk o.0 w.0 log))
 
+-- the line may meet a fault: it has no reply yet, or, where a task of its merge meets it, it is a merge
+abbrev pub MayMeet : Bool → At → Past → Type 0
+MayMeet true at past = is_merging (last_of_line at past) ≡ true
+MayMeet false at past = is_answered at past ≡ false
+
 -- where the number rose, a fault of this kind is planned at the node, which runs
 abbrev pub IsPlannedIf : ℕ → FaultKind → ℕ → ℕ → Past → Type 0
 IsPlannedIf n kind old new past = nat_lt old new ≡ true → (is_planned n kind past ≡ true) × (is_running n past ≡ true)
@@ -55,6 +62,12 @@ abbrev pub has_risen : ℕ → ℕ → List (ℕ × ℕ) → List (ℕ × ℕ) �
 has_risen p n [] news = false
 has_risen p n (o ∷ olds) [] = false
 has_risen p n (o ∷ olds) (w ∷ news) = ((p == n) && (nat_lt o.0 w.0 || nat_lt o.1 w.1)) || has_risen p (n + 1) olds news
+
+-- one rose at any node
+abbrev pub has_any_risen : List (ℕ × ℕ) → List (ℕ × ℕ) → Bool
+has_any_risen [] news = false
+has_any_risen (o ∷ olds) [] = false
+has_any_risen (o ∷ olds) (w ∷ news) = (nat_lt o.0 w.0 || nat_lt o.1 w.1) || has_any_risen olds news
 
 module _ {D : Type 0} (planned : D → Plans) where
   -- what the disk of the node in a place has met

@@ -3,10 +3,7 @@ use Rattle.std.specs.Prelude.{List, map, Option, Some, None}
 use Rattle.disk_model.specs.Faults.{Plans}
 use Rattle.cluster_nodes.specs.declared.nodes.NodePlace.{NodePlace}
 use Rattle.cluster_nodes.specs.Places.{dir_of}
-
--- none, of a disk that is not there
-abbrev pub no_plans : Plans
-no_plans = record { once = 0; stop = 0; met_once = 0; met_stop = 0 }
+use Rattle.cluster_state.specs.Run.{no_plans}
 
 module _ {D : Type 0} (planned : D → Plans) where
   -- those for the disk of the node in a place

@@ -55,6 +55,15 @@ abbrev pub files_at : ℕ → Run → JobFiles
 files_at zero r = no_files
 files_at (suc k) r = unwrap_or (slice_get r.rest.jobs k) no_files
 
+-- none, of a disk that is not there
+abbrev pub no_plans : Plans
+no_plans = record { once = 0; stop = 0; met_once = 0; met_stop = 0 }
+
+-- the faults that are planned for the disk of a node, with how many it has met
+abbrev pub plans_at : ℕ → Run → Plans
+plans_at zero r = no_plans
+plans_at (suc k) r = unwrap_or (slice_get r.rest.plans k) no_plans
+
 -- the file is that of the stored documents of this segment
 abbrev pub is_docs_of : ℕ → Option Name → Bool
 is_docs_of seg None = false

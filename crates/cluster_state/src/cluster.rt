@@ -14,6 +14,8 @@ pub struct ClusterState<D: FaultDir> {
     pub ledger: Ledger,
     pub tasks: Tasks,
     pub places: Vec<Option<NodePlace<D>>>,
+    /// Whether the line whose commit is in flight at a node, from node 1 on, carries an older one to its end, and has its own still to begin.
+    pub carries: [bool; 255],
     pub ended: bool,
 }
 
@@ -41,7 +43,7 @@ impl<D: FaultDir> Model for ClusterState<D> {
       nodes = c.ledger.nodes;
       log = c.ledger.log;
       rest = record {
-        calls_left = calls_in c.places.items;
+        calls_left = calls_in c.carries c.places.items;
         cut = c.ledger.cut;
         sizes = sizes_in c.places.items;
         jobs = jobs_in c.places.items;
@@ -158,6 +160,7 @@ impl<D: FaultDir + Drop> ClusterState<D> {
         ensures ok { OnOk result (IsNow self.old self.new (shown at event ∷ self.old.log)) }
         ensures tasks { OnOk result (self.new.rest.tasks ≡ self.old.rest.tasks) }
         ensures jobs { OnOk result (self.new.rest.jobs ≡ self.old.rest.jobs) }
+        ensures plans { OnOk result (self.new.rest.plans ≡ self.old.rest.plans) }
         ensures rest { OnOk result (KeepsRest self.old self.new) }
         ensures err { OnErr result (IsEnded self.old self.new) }
     {

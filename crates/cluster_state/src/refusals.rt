@@ -25,6 +25,7 @@ pub fn refuse<D: FaultDir + Drop>(
     ensures ok { OnOk result (LineRefused at cause state.old state.new) }
     ensures tasks { OnOk result (state.new.rest.tasks ≡ state.old.rest.tasks) }
     ensures jobs { OnOk result (state.new.rest.jobs ≡ state.old.rest.jobs) }
+    ensures plans { OnOk result (state.new.rest.plans ≡ state.old.rest.plans) }
     ensures rest { OnOk result (KeepsRest state.old state.new) }
     ensures err { OnErr result (IsEnded state.old state.new) }
 {
@@ -43,6 +44,7 @@ pub fn refuse_turn<D: FaultDir + Drop, W>(
     requires fresh { entries_of_line at (printed state.old.log) ≡ [] }
     requires cause { is_disk_fault cause ≡ false }
     ensures ok { IfOk result (IsRefusedTurn at cause state.old state.new) }
+    ensures plans { OnOk result (state.new.rest.plans ≡ state.old.rest.plans) }
     ensures rest { OnOk result (KeepsRest state.old state.new) }
     ensures err { OnErr result (IsEnded state.old state.new) }
 {

@@ -1,11 +1,13 @@
 -- The jobs that copy points to nodes, as the entries of inner work show them, and in which turn these come.
-use Rattle.std.specs.Prelude.{ℕ, ◌≡◌, ◌≢◌, ◌≤◌, ◌<◌, List, [], ◌∷◌, Bool, true, false, Option, Some, None, ⊤, length, nat_le}
+use Rattle.std.specs.Prelude.{ℕ, ◌≡◌, ◌≢◌, ◌≤◌, ◌<◌, List, [], ◌∷◌, Bool, true, false, Option, Some, None, ⊤, ◌==◌, length, nat_le}
 use Rattle.nrt_base.specs.declared.numbers.At.{At}
 use Rattle.nrt_base.specs.declared.numbers.Version.{Version}
 use Rattle.history_rules.specs.declared.entry.Event.{Event}
 use Rattle.history_rules.specs.declared.entry.Event.TheVariants.{Copying, Settling}
 use Rattle.history_rules.specs.Nodes.{Past, IsNode, IsReplica, is_running, primary_of, newest_version, is_made_in_generation}
 use Rattle.history_rules.specs.Lines.{start_entry, before_start, NodeSurvives, SourceSurvives}
+use Rattle.history_rules.specs.declared.cause.FaultKind.TheVariants.{Link, Damage}
+use Rattle.history_rules.specs.Faults.{same_kind, has_fault}
 use Rattle.history_rules.specs.Rules.{MayCancel}
 use Rattle.history_tables.specs.declared.jobs.Job.{Job}
 use Rattle.history_tables.specs.declared.jobs.JobRow.{JobRow}
@@ -17,7 +19,9 @@ use Rattle.history_tables.specs.NodeRows.{crashed_at}
 use Rattle.history_tables.specs.Numbering.{primary_crashed}
 use Rattle.history_tables.specs.JobRows.{last_job_by, while_going, row_under}
 use Rattle.history_book.specs.declared.inner.Inner.{Inner}
-use Rattle.history_book.specs.declared.inner.Inner.TheVariants.{JobBegun, JobEnd}
+use Rattle.history_book.specs.declared.inner.Inner.TheVariants.{JobBegun, FileOut, JobEnd}
+use Rattle.link_model.specs.declared.fate.Fate.{Fate}
+use Rattle.link_model.specs.declared.fate.Fate.TheVariants.{Whole, Fail, Damage as DamageFate}
 use Rattle.history_book.specs.declared.inner.Mark.TheVariants.{Kept}
 use Rattle.history_book.specs.Log.{Log, printed}
 
@@ -63,9 +67,16 @@ pub record MayBeginJob (size : ℕ) (log : Log) (at : At) (n v : ℕ) : Type 0 w
   pub source : SourceSurvives (printed log) at
   pub older : IsOlder v (job_at n log)
 
+-- the fault that makes this of a file for the node stands there, of the line
+abbrev pub FollowsFault : Fate → At → ℕ → Past → Type 0
+FollowsFault Whole at n past = ⊤
+FollowsFault Fail at n past = has_fault (λ m. m == n) (same_kind Link) at past ≡ true
+FollowsFault (DamageFate byte) at n past = has_fault (λ m. m == n) (same_kind Damage) at past ≡ true
+
 -- an entry of inner work comes in its turn
 abbrev pub IsInside : ℕ → Log → Inner → Type 0
 IsInside size log (JobBegun line n number (Some v) (Some at)) = (line ≡ at.line) × MayBeginJob size log at n.0 v.0
+IsInside size log (FileOut line n number name source fate (Some at)) = FollowsFault fate at n.0 (printed log)
 IsInside size log i = ⊤
 
 -- each entry of inner work came in its turn

@@ -95,7 +95,7 @@ name_by (Some at) = lane_name at.lane.0
 -- the seat that an entry of inner work names, or 0 where any may append it
 abbrev pub name_inside : Inner → ℕ
 name_inside (JobBegun line node job version taker) = name_by taker
-name_inside (FileOut line node job name source taker) = name_by taker
+name_inside (FileOut line node job name source fate taker) = name_by taker
 name_inside (TaskOut line seg taker step) = name_by taker
 name_inside (TaskEnd line seg taker step counts) = name_by taker
 name_inside i = 0

@@ -86,6 +86,8 @@ fn commit_node(start: Start) -> Option<NodeNo>
 
 impl Book {
     ghost use Rattle.std.specs.Prelude.{ℕ, ◌≤◌, ◌<◌, ◌≡◌, ◌≢◌, ◌⊎◌, ◌+◌, ◌∷◌, [], ◌==◌, nat_lt, true, false, None, Some, IfSome, IfOk, OnOk, length, reverse};
+    ghost use Rattle.nrt_base.specs.declared.numbers.NodeNo.{NodeNo};
+    ghost use Rattle.history_rules.specs.declared.cause.FaultKind.{FaultKind};
     ghost use Rattle.history_rules.specs.Nodes.{IsNode, IsReplica, is_at, crashes, primary_crashes, primary_of, newest_version, generation_of, accepted_count, is_running, version_of};
     ghost use Rattle.history_rules.specs.Lines.{SourceSurvives, NodeSurvives, is_start, is_answered, entries_of_line, last_of_line, start_entry, before_start, publish_in_flight, commit_in_flight, copy_in_flight, highest_switched, has_switched};
     ghost use Rattle.history_rules.specs.Points.{operations_of_generation, accepted_at_start, published_in_generation, names_drawn, merges_started, idle_publishes, cut_of, cut_has_put};
@@ -105,7 +107,7 @@ impl Book {
     ghost use Rattle.history_book.specs.Told.{IsSo, IsTold};
     ghost use Rattle.history_book.specs.Laws.{Reigns, Written, LastStarted, Flying, Flushed, IsFresh, CommitFound, CommitFlies};
     ghost use Rattle.history_tables.specs.JobRows.{is_begin, while_going};
-    ghost use Rattle.history_book.specs.Jobs.{job_step, last_job, job_at, job_of, IsInside, LaneJobShows};
+    ghost use Rattle.history_book.specs.Jobs.{job_step, last_job, job_at, job_of, IsInside, AreInside, LaneJobShows};
 
     /// A book of so many nodes.
     pub fn new(alloc: Global, nodes: u8) -> Result<Self, AllocError>
@@ -131,6 +133,7 @@ impl Book {
         ensures legal { IsLegalPast self.now.nodes (printed self.now.log) }
         ensures turns { AreInTurn (printed self.now.log) }
         ensures faults { FaultsFollow self.now.log }
+        ensures inside { AreInside self.now.nodes self.now.log }
         ensures told { IsTold self.now.log }
     {
         let _numbers = &self.numbers;
@@ -164,6 +167,8 @@ impl Book {
         ensures nodes { self.new.nodes ≡ self.old.nodes }
         ensures room { self.new.room + 1 ≡ self.old.room }
         ensures jobs { self.new.jobs ≡ self.old.jobs }
+        ensures places { (n : NodeNo) (kind : FaultKind)
+            → event ≡ Event.Fault n kind → self.new.places ≡ self.old.places }
         // what stood there before
         ensures legal { IsLegalPast self.old.nodes (printed self.old.log) }
         ensures turns { AreInTurn (printed self.old.log) }
@@ -181,6 +186,7 @@ impl Book {
         ensures nodes { self.new.nodes ≡ self.old.nodes }
         ensures room { self.new.room + 1 ≡ self.old.room }
         ensures jobs { self.new.jobs ≡ self.old.jobs }
+        ensures places { self.new.places ≡ self.old.places }
     {
         self.append(at, Event::Fault { n, kind }, true);
     }
@@ -198,6 +204,8 @@ impl Book {
         ensures nodes { self.new.nodes ≡ self.old.nodes }
         ensures room { self.new.room + 1 ≡ self.old.room }
         ensures jobs { self.new.jobs ≡ self.old.jobs }
+        ensures places { (n : NodeNo) (kind : FaultKind)
+            → event ≡ Event.Fault n kind → self.new.places ≡ self.old.places }
         ensures legal { IsLegalPast self.old.nodes (printed self.old.log) }
         ensures turns { AreInTurn (printed self.old.log) }
     {
@@ -576,8 +584,7 @@ impl Book {
         self.row(n).work.copying
     }
 
-    /// Whether a disk fault refused a commit of a node, and neither was one acknowledged since nor
-    /// did it reopen.
+    /// Whether a disk fault refused a commit of a node, and neither was one acknowledged since nor did it reopen.
     pub fn is_stuck(&self, n: NodeNo) -> bool
         requires { IsNode self.now.nodes n.0 }
         ensures { result ≡ is_stuck n.0 (printed self.now.log) }
@@ -705,8 +712,7 @@ impl Book {
         let _numbers = &self.numbers;
     }
 
-    /// The node of the last job of a lane is a replica while neither it nor the primary has
-    /// crashed since the line's start. A law.
+    /// The node of the last job of a lane is a replica while neither it nor the primary has crashed since the line's start. A law.
     pub fn job_replica(&self, row: JobRow)
         requires job { job_of row.job.at.lane.0 self.now.log ≡ Some row }
         requires node { NodeSurvives (printed self.now.log) row.job.at row.job.node.0 }
@@ -716,8 +722,7 @@ impl Book {
         let _numbers = &self.numbers;
     }
 
-    /// The node of the last job of a lane may switch to the job's version, where it is below that
-    /// of the line's start. A law.
+    /// The node of the last job of a lane may switch to the job's version, where it is below that of the line's start. A law.
     pub fn job_switches(&self, row: JobRow)
         requires job { job_of row.job.at.lane.0 self.now.log ≡ Some row }
         requires node { NodeSurvives (printed self.now.log) row.job.at row.job.node.0 }

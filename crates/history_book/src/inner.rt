@@ -8,6 +8,7 @@ use bytes::Bytes;
 use file_names::FileName;
 use history_rules::Entry;
 use history_tables::{Job, JobStep};
+use link_model::Fate;
 use nrt_base::{At, LineNo, List, NodeNo, SegNo, Version};
 use seg_reader::Segment;
 
@@ -52,13 +53,14 @@ pub enum Inner {
         version: Option<Version>,
         by: Option<At>,
     },
-    /// A file was handed out to that job, with the bytes of its source.
+    /// A file was handed out to that job, with the bytes of its source and what becomes of it.
     FileOut {
         line: LineNo,
         node: NodeNo,
         job: u64,
         name: FileName,
         source: Bytes,
+        fate: Fate,
         by: Option<At>,
     },
     /// That job has ended.

@@ -9,3 +9,4 @@ mod whole;
 pub use book::Book;
 pub use history_tables::{Job, JobRow, Opening, Start};
 pub use inner::{Inner, Mark, Step, Stop};
+pub use link_model::Fate;

@@ -98,6 +98,8 @@ fn without(rows: &mut Vec<LineRow>, at: At)
 impl Lines {
     ghost use Rattle.std.specs.Prelude.{ℕ, ◌≡◌, ◌≤◌, [], true, if◌then◌else◌, OnOk};
     ghost use Rattle.nrt_base.specs.declared.numbers.At.{At};
+    ghost use Rattle.nrt_base.specs.declared.numbers.NodeNo.{NodeNo};
+    ghost use Rattle.history_rules.specs.declared.cause.FaultKind.{FaultKind};
     ghost use Rattle.history_rules.specs.Lines.{same_at, is_start};
     ghost use Rattle.history_tables.specs.Begins.{begun_under, begun_by};
 
@@ -153,9 +155,11 @@ impl Lines {
     pub fn step(&mut self, at: At, event: &Event, before: usize, accepted: usize)
         requires room { is_start event.now ≡ true → 1 ≤ self.old.room }
         requires fresh { is_start event.now ≡ true → begun_under self.old.rows at ≡ None }
-        ensures { (b : At) → begun_under self.new.rows b
+        ensures rows { (b : At) → begun_under self.new.rows b
             ≡ (if same_at at b then begun_by event.now before accepted (begun_under self.old.rows b)
             else begun_under self.old.rows b) }
+        ensures room { (n : NodeNo) (kind : FaultKind)
+            → event.now ≡ Event.Fault n kind → self.new.room ≡ self.old.room }
     {
         match event {
             Event::Switched { .. } | Event::Fault { .. } => {}

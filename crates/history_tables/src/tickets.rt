@@ -40,6 +40,8 @@ impl Model for Tickets {
 
 impl Tickets {
     ghost use Rattle.std.specs.Prelude.{ℕ, ◌≡◌, ◌≤◌, ◌&&◌, ◌==◌, Option, None, Some, [], true, if◌then◌else◌, OnOk, IfSome};
+    ghost use Rattle.nrt_base.specs.declared.numbers.NodeNo.{NodeNo};
+    ghost use Rattle.history_rules.specs.declared.cause.FaultKind.{FaultKind};
     ghost use Rattle.history_rules.specs.Nodes.{Past};
     ghost use Rattle.history_rules.specs.Tickets.{ticket_by};
     ghost use Rattle.history_tables.specs.Openings.{opened_of, opens_ticket, ticket_of, IsLife};
@@ -93,8 +95,10 @@ impl Tickets {
     /// After one more entry.
     pub fn step(&mut self, at: At, event: &Event, life: usize)
         requires room { opens_ticket event.now ≡ true → 1 ≤ self.old.room }
-        ensures { (past : Past) (l t : ℕ) → IsLife event.now past life
+        ensures rows { (past : Past) (l t : ℕ) → IsLife event.now past life
             → opened_of self.new.rows l t ≡ ticket_by l t at event.now past (opened_of self.old.rows l t) }
+        ensures room { (n : NodeNo) (kind : FaultKind)
+            → event.now ≡ Event.Fault n kind → self.new.room ≡ self.old.room }
     {
         match event {
             Event::Opened { n, t, v } => {

@@ -1,5 +1,5 @@
 -- What the calls of a job leave of its line, and of a settle.
-use Rattle.std.proofs.Common.{◌≡◌, ◌≢◌, ◌<◌, ◌≤◌, ◌⊎◌, ◌&&◌, ◌||◌, ◌==◌, ℕ, Bool, true, false, List, [], ◌∷◌, Some, None, Option, length, not, refl, ap, ◌∙◌, sym, subst, if◌then◌else◌, true≢false}
+use Rattle.std.proofs.Common.{◌≡◌, ◌≢◌, ◌<◌, ◌≤◌, ◌⊎◌, ◌&&◌, ◌||◌, ◌==◌, ℕ, Bool, true, false, List, [], ◌∷◌, Some, None, Option, length, not, inl, inr, refl, ap, ◌∙◌, sym, subst, if◌then◌else◌, true≢false}
 use Rattle.std.specs.Prelude.{Result, Ok, Err, IfOk, OnOk, IsTrue, ◌↔◌, IsSomeAnd}
 use Rattle.std.specs.List.{All, AllPairs, Contains}
 use Rattle.std.proofs.lemmas.Bool.{eqb-true, eq-eqb, not-false}
@@ -12,7 +12,7 @@ use Rattle.nrt_base.specs.declared.numbers.At.{At}
 use Rattle.nrt_base.specs.declared.numbers.NodeNo.{NodeNo}
 use Rattle.nrt_base.specs.declared.numbers.Version.{Version}
 use Rattle.history_rules.specs.declared.cause.Cause.{Cause}
-use Rattle.history_rules.specs.declared.cause.Cause.TheVariants.{Lost}
+use Rattle.history_rules.specs.declared.cause.Cause.TheVariants.{Lost, DiskFault}
 use Rattle.history_rules.specs.declared.entry.Entry.{Entry}
 use Rattle.history_rules.specs.declared.entry.Event.{Event}
 use Rattle.history_rules.specs.declared.entry.Event.TheVariants.{Publishing, Copying, Switched, Settling, Opened, Asking, Committing, Fault, Refused}
@@ -35,13 +35,15 @@ use Rattle.cluster_nodes.specs.declared.tasks.FileTask.{FileTask}
 use Rattle.cluster_nodes.specs.declared.tasks.SettleTask.{SettleTask}
 use Rattle.cluster_state.specs.Run.{Run, IsNow}
 use Rattle.cluster_state.specs.FilesOut.{file_out, is_by, is_job}
-use Rattle.cluster_state.specs.Copies.{newest_of, IsCopying, JobRuns, HandsFile, ended_log}
+use Rattle.cluster_state.specs.GivesUp.{met_log}
+use Rattle.cluster_state.specs.Copies.{newest_of, IsCopying, JobRuns, HandsFile, JobRefused, ended_log}
+use Rattle.cluster_state.proofs.MetLines.{met_start, met_open, met_high, met_job, met_settling}
 use Rattle.cluster_state.specs.Settles.{IsLeft, IsSettling}
 use Rattle.cluster_state.specs.declared.standing.Standing.{Standing}
 use Rattle.cluster_state.specs.declared.standing.Standing.TheVariants.{Runs, Passed, Ends}
 use Rattle.cluster_state.specs.declared.turn.Turn.{Turn}
 use Rattle.cluster_state.specs.declared.turn.Turn.TheVariants.{Work, Done, Busy}
-use Rattle.cluster_state.specs.CopyCalls.{is_node_lost, overtaken, standing_of, log_after, stopped_log, StopsTurn, JobGoesOn, JobHasPart, AreFrom, CopyStarts, SettleStarts, SettleGoesOn, SettlesOn}
+use Rattle.cluster_state.specs.CopyCalls.{is_node_lost, overtaken, standing_of, log_after, stopped_log, StopsTurn, JobGoesOn, JobTakes, AreFrom, CopyStarts, SettleStarts, SettleGoesOn, SettlesOn}
 use Rattle.lane_sections.specs.Given.{SiteRun, DoesAtSite, IsReplied, IsRepliedAtDone, IsBegunAtWork}
 use Rattle.lane_sections.specs.Turns.{IsUnbegunIn, NeverWaits, TurnShows}
 use Rattle.lane_copies.specs.Jobs.{IsJobStart, IsCopyStart, IsCopyingBy, HasFileOut, IsCopyReplied, BeginsCopy, BeginsNextJob, HasBegunToSettle, IsSettlingOn, LeavesJob, LeavesJobAt}
@@ -197,19 +199,56 @@ module _ (at : At) (task : CopyTask) (old new : Run) (row : JobRow) (mine : row.
 
 -- ---- a job that goes on
 
-hands_copying : (at : At) (task : CopyTask) (job : Job) (old new : Run) (file : FileTask) → IsCopyingBy at task old.log → HandsFile job old new file → IsCopyingBy at task new.log
-hands_copying at task job old new file c hands =
-    subst (IsCopyingBy at task) (sym hands.now.log)
-    (record {
+-- the line copies by the job behind the faults of disks that it met
+met_copying : (at : At) (task : CopyTask) (old new : Run) → IsCopyingBy at task old.log → IsCopyingBy at task (met_log at old new)
+met_copying at task old new c =
+    record {
       row = c.row;
-      last = ap (row_if_some Passes) c.last;
+      last = met_job at old new at.lane.0 ∙ c.last;
       at_is = c.at_is;
       node = c.node;
       number = c.number;
       line = c.line;
-      started = c.started;
-      is_open = c.is_open;
-      ordered = c.ordered;
+      started = subst (IsJobStart task.node.0) (sym (met_start at old new)) c.started;
+      is_open = λ none. c.is_open (sym (met_open at old new) ∙ none);
+      ordered = subst (λ (k : ℕ). k < task.node.0) (sym (met_high at old new)) c.ordered;
+    }
+
+-- the log of a job is as before but for these faults, so that a settle goes on
+leaves_met : (at : At) (task : CopyTask) (now : Log → Type 0) (old new : Run) → IsNow old new (met_log at old new) → now (met_log at old new) → LeavesJob at task now old new
+leaves_met at task now old new met is =
+    record {
+      start = ap (λ (l : Log). start_entry at (printed l)) met.log ∙ met_start at old new;
+      settles = λ left settling from line.
+          subst (λ (x : ℕ × Log). IsSettling x.0 (printed x.1) at left) (λ i. (sym met.nodes i, sym met.log i)) (met_settling at old new old.nodes left settling);
+      now = subst now (sym met.log) is;
+    }
+
+-- the line of a job was refused, and the job has ended
+refused_leaves : (at : At) (task : CopyTask) (job : Job) (cause : Cause) (old new : Run) → job.at ≡ at → JobRefused job cause old new → LeavesJob at task (IsCopyReplied at) old new
+refused_leaves at task job cause old new mine refused =
+    let is : printed new.log ≡ record { at = at; event = Refused cause } ∷ printed (met_log at old new) =
+    ap printed refused.now.log ∙ ap (λ (a : At). record { at = a; event = Refused cause } ∷ printed (met_log a old new)) mine in
+    record {
+      start = ap (start_entry at) is ∙ met_start at old new;
+      settles = λ left settling from line. absurd (line (ap (open_line at) is ∙ refused_closed at (printed (met_log at old new)) cause));
+      now = λ copy. ap (is_answered at) is ∙ refused_replied at (printed (met_log at old new)) cause;
+    }
+
+hands_copying : (at : At) (task : CopyTask) (job : Job) (old new : Run) (file : FileTask) → job.at ≡ at → IsCopyingBy at task old.log → HandsFile job old new file → IsCopyingBy at task new.log
+hands_copying at task job old new file mine c hands =
+    let m : IsCopyingBy at task (met_log job.at old new) = subst (λ (a : At). IsCopyingBy at task (met_log a old new)) (sym mine) (met_copying at task old new c) in
+    subst (IsCopyingBy at task) (sym hands.now.log)
+    (record {
+      row = m.row;
+      last = ap (row_if_some Passes) m.last;
+      at_is = m.at_is;
+      node = m.node;
+      number = m.number;
+      line = m.line;
+      started = m.started;
+      is_open = m.is_open;
+      ordered = m.ordered;
     })
 
 is_job_here : (at : At) (task : CopyTask) (job : Job) → job.at ≡ at → job.node ≡ task.node → job.number ≡ task.job → is_job at task.node.0 task.job (Some job.at) job.node.0 job.number ≡ true
@@ -224,8 +263,8 @@ handed_out : (at : At) (job : Job) (task : CopyTask) (old new : Run) (file : Fil
 handed_out at job task old new file mine node number hands =
     let out : Log → Content = file_out at task.node.0 task.job file.name in
     ap out hands.now.log
-    ∙ (ap (λ (b : Bool). if b && same file.name file.name then Some file.source else out old.log) (is_job_here at task job mine node number)
-    ∙ ap (λ (b : Bool). if b then Some file.source else out old.log) (same_self file.name))
+    ∙ (ap (λ (b : Bool). if b && same file.name file.name then Some file.source else out (met_log job.at old new)) (is_job_here at task job mine node number)
+    ∙ ap (λ (b : Bool). if b then Some file.source else out (met_log job.at old new)) (same_self file.name))
 
 ended_start : (at : At) (job : Job) (begun : Option Event) (log : Log) → start_entry at (printed (ended_log job begun log)) ≡ start_entry at (printed log)
 ended_start at job (Some (Copying n v)) log = refl
@@ -253,47 +292,56 @@ module _ (at : At) (task : CopyTask) (old new : Run) (c : IsCopyingBy at task ol
       let stopped : StopsTurn log old new turn = stops copying.row started.begun log copying.last started.start is in
       subst (LeavesJobAt out at task old new) (sym stopped.0) (stopped_leaves at task old new copying.row copying.at_is copying.node started log is stopped.1)
 
+  start_met : start_entry at (printed (met_log copying.row.job.at old new)) ≡ start_entry at (printed old.log)
+  start_met = subst (λ (a : At). start_entry at (printed (met_log a old new)) ≡ start_entry at (printed old.log)) (sym copying.at_is) (met_start at old new)
+
   pub next_leaves : (turn : Turn FileTask) → ((row : JobRow) → JobRuns old.log row → row.job.at ≡ at → JobGoesOn row.job old new turn) → StopsAt at old new turn
       → ((left : SettleTask) → IsSettling old.nodes (printed old.log) at left → AreFrom task.node left.left.items → SettlesOn at left new) → LeavesJobAt (HasFileOut at task) at task old new turn
   next_leaves turn ok stops settling = by (stopped_log started.begun copying.row old.log) refl
     where
       goes_on : (turn : Turn FileTask) → JobGoesOn copying.row.job old new turn → LeavesJobAt (HasFileOut at task) at task old new turn
       goes_on (Work file) hands = record {
-        start = ap (λ (l : Log). start_entry at (printed l)) hands.now.log;
+        start = ap (λ (l : Log). start_entry at (printed l)) hands.now.log ∙ start_met;
         settles = settling;
         now = record {
-          copying = hands_copying at task copying.row.job old new file c hands;
+          copying = hands_copying at task copying.row.job old new file copying.at_is c hands;
           out = handed_out at copying.row.job task old new file copying.at_is copying.node copying.number hands;
           meta = hands.meta;
           footer = hands.footer;
         };
       }
-      goes_on Done ends =
+      goes_on Done (inl ends) =
           let begun : Option Event = start_entry copying.row.job.at (printed old.log) in
+          let met : Log = met_log copying.row.job.at old new in
           let same : start_entry at (printed new.log) ≡ start_entry at (printed old.log) =
-          ap (λ (l : Log). start_entry at (printed l)) ends.log ∙ ended_start at copying.row.job begun old.log in
+          ap (λ (l : Log). start_entry at (printed l)) ends.log ∙ (ended_start at copying.row.job begun met ∙ start_met) in
           record {
             start = same;
             settles = settling;
             now = λ copy. ap (λ (l : Log). is_answered at (printed l)) ends.log
-                ∙ ended_reply at copying.row.job begun old.log copying.at_is
+                ∙ ended_reply at copying.row.job begun met copying.at_is
                 (subst IsCopyStart (same ∙ ap (λ (a : At). start_entry a (printed old.log)) (sym copying.at_is)) copy);
           }
+      goes_on Done (inr refused) = refused_leaves at task copying.row.job DiskFault old new copying.at_is refused
       goes_on Busy ends = absurd ends
 
       by : (o : Option Log) → stopped_log started.begun copying.row old.log ≡ o → LeavesJobAt (HasFileOut at task) at task old new turn
       by (Some log) is = stops_here (HasFileOut at task) turn log is stops
       by None is = goes_on turn (ok copying.row (runs is) copying.at_is)
 
-  pub take_leaves : (name : Name) (turn : Turn (Unit {0})) → ((row : JobRow) → JobRuns old.log row → row.job.at ≡ at → JobHasPart row.job.node name old new turn) → StopsAt at old new turn
+  pub take_leaves : (name : Name) (turn : Turn (Unit {0})) → ((row : JobRow) → JobRuns old.log row → row.job.at ≡ at → JobTakes row.job name old new turn) → StopsAt at old new turn
       → LeavesJobAt (λ taken. IsCopyingBy at task) at task old new turn
   take_leaves name turn ok stops = by (stopped_log started.begun copying.row old.log) refl
     where
+      goes_on : (turn : Turn (Unit {0})) → JobTakes copying.row.job name old new turn → LeavesJobAt (λ taken. IsCopyingBy at task) at task old new turn
+      goes_on (Work done) takes =
+          leaves_met at task (IsCopyingBy at task) old new (subst (λ (a : At). IsNow old new (met_log a old new)) copying.at_is takes.0) (met_copying at task old new c)
+      goes_on Done refused = refused_leaves at task copying.row.job DiskFault old new copying.at_is refused
+      goes_on Busy takes = absurd takes
+
       by : (o : Option Log) → stopped_log started.begun copying.row old.log ≡ o → LeavesJobAt (λ taken. IsCopyingBy at task) at task old new turn
       by (Some log) is = stops_here (λ taken. IsCopyingBy at task) turn log is stops
-      by None is =
-          let part : JobHasPart copying.row.job.node name old new turn = ok copying.row (runs is) copying.at_is in
-          subst (LeavesJobAt (λ taken. IsCopyingBy at task) at task old new) (sym part.0) (leaves_same at task (IsCopyingBy at task) old new part.1 c)
+      by None is = goes_on turn (ok copying.row (runs is) copying.at_is)
 
 -- ---- a settle
 
@@ -374,7 +422,7 @@ pub copy_shows : (at : At) (n : NodeNo) (old new : Run) (turn : Turn CopyTask) �
 copy_shows at n old new (Work task) fresh starts replied begun =
     let start : start_entry at (printed new.log) ≡ Some (Copying n (newest_of (printed old.log))) =
     ap (λ (l : Log). start_entry at (printed l)) starts.now.log
-    ∙ ap (λ (b : Bool). if b then Some (Copying n (newest_of (printed old.log))) else start_entry at (printed old.log)) (same_at_self at) in
+    ∙ ap (λ (b : Bool). if b then Some (Copying n (newest_of (printed old.log))) else start_entry at (printed (met_log at old new))) (same_at_self at) in
     record {
       copying = begins_copying at task new.log (subst (IsJobStart task.node.0) (sym start) (sym (ap (λ (m : NodeNo). m.0) starts.node))) starts.copying;
       version = newest_of (printed old.log);
@@ -397,7 +445,7 @@ module _ {E : Type 0} (at : At) (task : CopyTask) (old new : Run) (c : IsCopying
   on_next_leaves (Ok turn) ok stops settling = next_leaves at task old new c copying turn ok stops settling
   on_next_leaves (Err x) ok stops settling = tt
 
-  pub on_take_leaves : (name : Name) (r : Result (Turn (Unit {0})) E) → IfOk r (λ turn. (row : JobRow) → JobRuns old.log row → row.job.at ≡ at → JobHasPart row.job.node name old new turn) → IfOk r (λ turn. StopsAt at old new turn)
+  pub on_take_leaves : (name : Name) (r : Result (Turn (Unit {0})) E) → IfOk r (λ turn. (row : JobRow) → JobRuns old.log row → row.job.at ≡ at → JobTakes row.job name old new turn) → IfOk r (λ turn. StopsAt at old new turn)
       → IfOk r (LeavesJobAt (λ taken. IsCopyingBy at task) at task old new)
   on_take_leaves name (Ok turn) ok stops = take_leaves at task old new c copying name turn ok stops
   on_take_leaves name (Err x) ok stops = tt

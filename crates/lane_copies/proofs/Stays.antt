@@ -110,8 +110,8 @@ by_other at a n number m k other =
 out_kept : (at : At) (n number : ℕ) (q : Name) (i : Inner) (old : Content) → name_inside i ≢ lane_name at.lane.0 → handed_file at n number q i old ≡ old
 out_kept at n number q (JobBegun line m k v (Some a)) old other = ap (λ (b : Bool). if b then None else old) (by_other at a n number m.0 k other)
 out_kept at n number q (JobBegun line m k v None) old other = refl
-out_kept at n number q (FileOut line m k name source (Some a)) old other = ap (λ (b : Bool). if b && same name q then Some source else old) (by_other at a n number m.0 k other)
-out_kept at n number q (FileOut line m k name source None) old other = refl
+out_kept at n number q (FileOut line m k name source fate (Some a)) old other = ap (λ (b : Bool). if b && same name q then Some source else old) (by_other at a n number m.0 k other)
+out_kept at n number q (FileOut line m k name source fate None) old other = refl
 out_kept at n number q i old other = refl
 
 pub out_apart : (at : At) (n number : ℕ) (q : Name) (more old : Log) → NoneOf at.lane.0 more → file_out at n number q (more ++ old) ≡ file_out at n number q old

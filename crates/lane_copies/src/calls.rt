@@ -45,6 +45,7 @@ pub fn next_file<D: FaultDir + Drop>(
 /// Takes a part of a file that was handed out to a job.
 pub fn take_part<D: FaultDir + Drop>(
     site: &mut Site<D>,
+    alloc: Global,
     at: At,
     task: &CopyTask,
     part: Part,
@@ -64,7 +65,7 @@ pub fn take_part<D: FaultDir + Drop>(
     if !site.has_job(at.lane) {
         return Err(AllocError);
     }
-    site.copy_arrived(at, task, part)
+    site.copy_arrived(alloc, at, task, part)
 }
 
 // A copy of what a settle has left.

@@ -52,7 +52,7 @@ fn bring_back<R: Wait, D: FaultDir + Drop, G: Gate>(
         lanes.now.setup.nodes lanes.now.lock.now at task.now seat.old seat.new) }
 {
     let mut held = enter_site(lanes, seat, at)?;
-    let answer = take_part(held.value(), at, task, part);
+    let answer = take_part(held.value(), lanes.alloc, at, task, part);
     leave(lanes.lock, at.lane, seat, held);
     answer
 }

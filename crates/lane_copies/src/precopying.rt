@@ -56,7 +56,7 @@ fn bring_back<R: Wait, D: FaultDir + Drop, G: Gate>(
         seat.old seat.new) }
 {
     let mut held = enter_site(lanes, seat, at)?;
-    let answer = held.value().precopy_arrived(task, copy, part);
+    let answer = held.value().precopy_arrived(lanes.alloc, task, copy, part);
     leave(lanes.lock, at.lane, seat, held);
     answer
 }

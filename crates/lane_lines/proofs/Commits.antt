@@ -4,9 +4,9 @@ use Rattle.std.specs.Prelude.{Result, OnOk}
 use Rattle.nrt_base.specs.declared.numbers.At.{At}
 use Rattle.nrt_base.specs.declared.numbers.NodeNo.{NodeNo}
 use Rattle.history_rules.specs.declared.entry.Event.TheVariants.{Committing}
-use Rattle.history_rules.specs.Lines.{entries_of_line}
+use Rattle.history_rules.specs.Lines.{last_of_line, entries_of_line}
 use Rattle.history_book.specs.declared.inner.Mark.{Mark}
-use Rattle.history_book.specs.Log.{printed}
+use Rattle.history_book.specs.Log.{Log, printed}
 use Rattle.script_serving.specs.declared.script.LineCommand.TheVariants.{Commit}
 use Rattle.hist_lock.specs.declared.grows.Grows.{Ghosts}
 use Rattle.hist_lock.specs.declared.lock.LaneSeat.{LaneSeat}
@@ -18,6 +18,7 @@ use Rattle.cluster_state.specs.declared.turn.Turn.{Turn}
 use Rattle.cluster_state.specs.declared.turn.Turn.TheVariants.{Work, Done, Busy}
 use Rattle.cluster_state.specs.LifeCalls.{CommitStarts, CommitSteps}
 use Rattle.cluster_core.specs.Doing.{IsRepliedAtDone, IsBegunAtWork}
+use Rattle.cluster_state.proofs.MetLines.{met_last}
 use Rattle.lane_sections.specs.Given.{SiteRun}
 use Rattle.lane_sections.specs.Turns.{IsUnbegunIn, NeverWaits, TurnShows}
 use Rattle.lane_lines.specs.Commits.{HasBegunCommit, IsCommitting}
@@ -31,7 +32,7 @@ commit_shows at n old new Busy fresh starts replied begun = subst (λ (r : Run).
 
 pub step_shows : (at : At) (task : CommitTask) (old new : Run) (turn : Turn (Unit {0})) → HasBegunCommit at task old.log → CommitSteps at task.node task.version old new turn → IsRepliedAtDone at new turn
     → TurnShows (λ made. HasBegunCommit at task) NeverWaits at new turn
-step_shows at task old new (Work made) begun steps replied = subst (HasBegunCommit at task) (sym steps.0.log) begun
+step_shows at task old new (Work made) begun steps replied = ap (λ (l : Log). last_of_line at (printed l)) steps.0.log ∙ (met_last at old new ∙ begun)
 step_shows at task old new Done begun steps replied = replied
 step_shows at task old new Busy begun steps replied = absurd steps
 

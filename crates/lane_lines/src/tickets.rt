@@ -48,7 +48,7 @@ pub fn close<R: Wait, D: FaultDir + Drop, G: Gate>(
         seat.new) }
 {
     let mut held = enter_site(lanes, seat, at)?;
-    let answer = held.value().ticket_close(at, t);
+    let answer = held.value().ticket_close(lanes.alloc, at, t);
     leave(lanes.lock, at.lane, seat, held);
     answer
 }

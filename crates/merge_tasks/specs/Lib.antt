@@ -1,3 +1,4 @@
 pub mod Board
+pub mod Fates
 pub mod Merging
 pub mod TaskLog

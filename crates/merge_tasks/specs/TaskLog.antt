@@ -41,7 +41,7 @@ merge_task seg inputs = record { seg = seg; inputs = inputs; live = map (λ s. s
 
 -- the bytes of a merged file that an entry hands out, to no line
 abbrev pub carries_as : Name → Inner → Content
-carries_as q (FileOut line n job name source None) = if same name q then Some source else None
+carries_as q (FileOut line n job name source fate None) = if same name q then Some source else None
 carries_as q i = None
 
 -- the bytes that were handed out first under the name of a merged file

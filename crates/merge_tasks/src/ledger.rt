@@ -1,5 +1,6 @@
-//! A book with its merges, which stands in the place of the book for what is above.
+//! A book with its merges and the faults planned for files, which stands in the place of the book for what is above.
 
+use crate::fates::{FilePlans, first_plans, plans_of, step_inside, step_plans};
 use crate::merges::Merges;
 use history_book::{Book, Inner};
 use history_rules::{Event, FaultKind, History};
@@ -7,14 +8,16 @@ use nrt_base::{At, Gen, NodeNo, SegNo, Version};
 use std::alloc::{AllocError, Global};
 use std::marker::Model;
 
-/// A book, and the merges in flight.
+/// A book, the merges in flight, and the faults that are planned for the files of each node.
 #[derive(Debug, Drop)]
 pub struct Ledger {
     book: Book,
     merges: Merges,
+    plans: Vec<FilePlans>,
 }
 
 impl Model for Ledger {
+    ghost use Rattle.merge_tasks.specs.Fates.{PlansShow};
     ghost use Rattle.merge_tasks.specs.Merging.{MergesShow, Sheet};
     ghost use Rattle.documents.specs.contracts.query.Query as query;
     ghost use Rattle.std.specs.Coded.{codes};
@@ -33,15 +36,18 @@ impl Model for Ledger {
       cut = c.merges.cut;
     } };
 
-    ghost invariant = { λ c. MergesShow c.book.log c.merges };
+    ghost invariant = { λ c. MergesShow c.book.log c.merges
+        × PlansShow c.book.nodes c.book.log c.plans.items };
 }
 
 impl Ledger {
     ghost use Rattle.std.specs.Prelude.{◌≡◌, ◌≢◌, ◌≤◌, ◌<◌, ◌+◌, ◌∷◌, ◌⊎◌, [], false, true, None, Some, IfOk, OnOk, length, reverse, if◌then◌else◌};
+    ghost use Rattle.nrt_base.specs.declared.numbers.NodeNo.{NodeNo};
+    ghost use Rattle.history_rules.specs.declared.cause.FaultKind.{FaultKind};
     ghost use Rattle.history_rules.specs.Nodes.{IsNode, is_at, is_running, primary_of, generation_of, newest_version};
     ghost use Rattle.history_rules.specs.Lines.{is_start, is_free_for, publish_in_flight};
     ghost use Rattle.history_rules.specs.Points.{cut_of, merges_started, idle_publishes};
-    ghost use Rattle.history_rules.specs.Faults.{has_met_fault};
+    ghost use Rattle.history_rules.specs.Faults.{has_met_fault, is_planned};
     ghost use Rattle.history_rules.specs.Rules.{MayStartMerge, MayPromote};
     ghost use Rattle.history_rules.specs.Legal.{KeepsRule, IsLegalPast};
     ghost use Rattle.history_tables.specs.Openings.{opens_ticket};
@@ -50,6 +56,7 @@ impl Ledger {
     ghost use Rattle.history_book.specs.Jobs.{job_step, IsInside};
     ghost use Rattle.history_book.specs.Log.{printed, shown, kept, mark_for, FollowsMerging};
     ghost use Rattle.history_book.specs.Told.{IsSo, cut_since};
+    ghost use Rattle.merge_tasks.specs.Fates.{file_plans};
     ghost use Rattle.merge_tasks.specs.Merging.{merge_on, cut_after, is_apart, ends_reign, ends_no_merge};
 
     /// A ledger of so many nodes.
@@ -59,9 +66,11 @@ impl Ledger {
         ensures cut { IfOk result (λ l. l.cut ≡ false) }
     {
         let book = Book::new(alloc, nodes)?;
+        let plans = first_plans(alloc, nodes)?;
         Ok(Ledger {
             book,
             merges: Merges::new(alloc),
+            plans,
         })
     }
 
@@ -102,11 +111,14 @@ impl Ledger {
         ensures nodes { self.new.nodes ≡ self.old.nodes }
         ensures room { self.new.room + 1 ≡ self.old.room }
         ensures jobs { self.new.jobs ≡ self.old.jobs }
+        ensures places { (n : NodeNo) (kind : FaultKind)
+            → event ≡ Event.Fault n kind → self.new.places ≡ self.old.places }
         ensures cut { self.new.cut ≡ self.old.cut }
         // what stood there before
         ensures legal { IsLegalPast self.old.nodes (printed self.old.log) }
         ensures turns { AreInTurn (printed self.old.log) }
     {
+        step_plans(&mut self.plans, &event);
         self.book.show(at, event);
     }
 
@@ -120,7 +132,10 @@ impl Ledger {
         ensures nodes { self.new.nodes ≡ self.old.nodes }
         ensures room { self.new.room + 1 ≡ self.old.room }
         ensures cut { self.new.cut ≡ self.old.cut }
+        ensures jobs { self.new.jobs ≡ self.old.jobs }
+        ensures places { self.new.places ≡ self.old.places }
     {
+        step_plans(&mut self.plans, &Event::Fault { n, kind });
         self.book.show_task_fault(at, n, kind);
     }
 
@@ -135,6 +150,7 @@ impl Ledger {
         ensures room { self.old.room ≤ self.new.room + 1 }
         ensures cut { self.new.cut ≡ self.old.cut }
     {
+        step_inside(&mut self.plans, &inner);
         self.book.keep(inner);
     }
 
@@ -221,6 +237,7 @@ impl Ledger {
         ensures turns { AreInTurn (printed self.old.log) }
     {
         self.merges.clear();
+        step_plans(&mut self.plans, &Event::Crashed { n });
         self.book.show(at, Event::Crashed { n });
     }
 
@@ -282,6 +299,18 @@ impl Ledger {
             → idle_publishes (printed self.now.log) < merges_started (printed self.now.log) }
     {
         self.merges.has_cut()
+    }
+
+    /// The faults that are planned for the files of a node, each of which the history shows.
+    pub fn file_plans(&self, n: NodeNo) -> FilePlans
+        requires { IsNode self.now.nodes n.0 }
+        ensures plans { result ≡ file_plans n.0 self.now.log }
+        ensures link { result.link ≢ 0
+            → is_planned n.0 FaultKind.Link (printed self.now.log) ≡ true }
+        ensures damage { result.damage ≢ 0
+            → is_planned n.0 FaultKind.Damage (printed self.now.log) ≡ true }
+    {
+        plans_of(&self.plans, n)
     }
 
     /// The book, once no other entry is to come.

@@ -1,6 +1,6 @@
 -- What a replica is once a copy of a merged segment has begun there, has taken a part, or has ended.
-use Rattle.std.proofs.Common.{◌≡◌, ◌≢◌, ◌≤◌, ◌<◌, ◌+◌, ◌^◌, ◌++◌, ◌==◌, ℕ, Bool, true, false, true≢false, List, [], ◌∷◌, Some, None, Option, Result, refl, ap, ◌∙◌, sym, subst, arith, if◌then◌else◌, nat_lt}
-use Rattle.std.specs.Prelude.{IfSome, IfOk, IsSome, IsSomeAnd, max, is_some}
+use Rattle.std.proofs.Common.{◌≡◌, ◌≢◌, ◌≤◌, ◌<◌, ◌+◌, ◌^◌, ◌++◌, ◌==◌, ℕ, Bool, true, false, true≢false, List, [], ◌∷◌, Some, None, Option, Result, inl, inr, refl, ap, ◌∙◌, sym, subst, arith, if◌then◌else◌, nat_lt}
+use Rattle.std.specs.Prelude.{IfSome, IfOk, IsSome, IsSomeAnd, max, is_some, ⊤}
 use Rattle.std.specs.Option.{option_map}
 use Rattle.std.specs.List.{All, AllByRecursion}
 use Rattle.std.proofs.lemmas.Bool.Decides.{nat_tests}
@@ -10,6 +10,7 @@ use Rattle.file_deleter.specs.Holdings.{Holdings, times}
 use Rattle.file_deleter.proofs.NameLemmas.{among_times}
 use Rattle.file_names.specs.Names.{temp_name_of}
 use Rattle.searcher_switch.specs.Appearing.{NoneAppears, AppearsOnly}
+use Rattle.searcher_switch.proofs.Appearing.{only_then_none}
 use Rattle.copy_state.specs.declared.state.CopyState.{CopyState}
 use Rattle.copy_state.specs.declared.meta.FileMetaData.{FileMetaData}
 use Rattle.copy_state.specs.States.{meta_names, meta_in}
@@ -32,7 +33,7 @@ use Rattle.cluster_nodes.proofs.JobFiles.{wanted_meta}
 use Rattle.index_primary.specs.declared.parts.PrimaryParts.{PrimaryParts}
 use Rattle.node_merges.specs.declared.copies.CopyStep.{CopyStep}
 use Rattle.node_merges.specs.declared.copies.CopyStep.TheVariants.{Gone}
-use Rattle.node_merges.specs.MergeChanges.{is_copy_of, MaySend, SendsMerged, IsStepOf, TakesMerged, DropsMerged}
+use Rattle.node_merges.specs.MergeChanges.{is_copy_of, IsNameOfCopy, MaySend, SendsMerged, IsStepOf, TakesMerged, LosesMerged, DropsMerged}
 use Rattle.node_merges.specs.MergePlaces.{IsStepAt}
 
 -- what is told of the generation leaves the copies, or none of them
@@ -249,3 +250,41 @@ module _ {D : Type 0} (cells : D → Cells) where
     where
       copies_are : s.copies ≡ record r.copies { running = copies_with number (with_part c part.name) r.copies.running }
       copies_are = ap (λ (z : ReplicaParts D). z.copies) is
+
+  -- ---- the disk failed
+
+  -- as files were placed
+  pub loses_placing : (number : ℕ) (r s : ReplicaParts D) → s ≡ record r { dir = s.dir; files = s.files; copies = s.copies; known = s.known } → s.copies ≡ record r.copies { running = copies_without number r.copies.running }
+      → IsWholeReplica cells s → (AreStanding cells r → AreStanding cells s) → KeepsSource cells r s
+      → IfSome (copy_at number r.copies.running) (λ c. AppearsOnly (λ q. 0 < times (meta_names c.want.files) q) (cells r.dir) (cells s.dir)) → LosesMerged cells (λ source. ⊤) number r s
+  loses_placing number r s others copies whole standing sourced appears = record {
+    others = others;
+    copies = copies;
+    whole = whole;
+    standing = standing;
+    sourced = λ source reads is. sourced source is;
+    appears = by (copy_at number r.copies.running) appears;
+  }
+    where
+      by : (o : Option Job) → IfSome o (λ c. AppearsOnly (λ q. 0 < times (meta_names c.want.files) q) (cells r.dir) (cells s.dir)) → IfSome o (λ c. AppearsOnly (IsNameOfCopy number c) (cells r.dir) (cells s.dir))
+      by None is = tt
+      by (Some c) is = record { each = λ q none some. inl (is.each q none some) }
+
+  -- as a part was written, and the copy was ended behind it
+  pub loses_writing : (number : ℕ) (part : Part) (r m s : ReplicaParts D) (c : Job) → copy_at number r.copies.running ≡ Some c → is_among c.missing part.name ≡ true → m ≡ record r { dir = m.dir; files = m.files } → (AreStanding cells r → AreStanding cells m)
+      → ((source : Name → Content) → source part.name ≡ Some part.bytes → IsSourced source cells r → IsSourced source cells m) → AppearsOnly (λ q. q ≡ temp_name_of part.name number) (cells r.dir) (cells m.dir)
+      → DropsMerged cells number m s → LosesMerged cells (λ source. source part.name ≡ Some part.bytes) number r s
+  loses_writing number part r m s c at lacks same standing sourced appears drops = record {
+    others = base ∙ ap (λ (z : ReplicaParts D). record r { dir = s.dir; files = s.files; copies = s.copies; known = z.known }) (sym base);
+    copies = drops.copies ∙ ap (λ (z : ReplicaParts D). record z.copies { running = copies_without number z.copies.running }) same;
+    whole = drops.whole;
+    standing = λ is. drops.standing (standing is);
+    sourced = λ source reads is. drops.sourced source (sourced source reads is);
+    appears = subst (λ (o : Option Job). IfSome o (λ j. AppearsOnly (IsNameOfCopy number j) (cells r.dir) (cells s.dir))) (sym at) (record { each = λ q none some. inr (part.name, among_times c.missing part.name lacks, both.each q none some) });
+  }
+    where
+      base : s ≡ record r { dir = s.dir; files = s.files; copies = s.copies }
+      base = drops.others ∙ ap (λ (z : ReplicaParts D). record z { dir = s.dir; files = s.files; copies = s.copies }) same
+
+      both : AppearsOnly (λ q. q ≡ temp_name_of part.name number) (cells r.dir) (cells s.dir)
+      both = only_then_none (λ q. q ≡ temp_name_of part.name number) (cells r.dir) (cells m.dir) (cells s.dir) appears drops.appears

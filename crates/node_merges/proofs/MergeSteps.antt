@@ -1,6 +1,6 @@
 -- A node that was taken out of its place moved, and was put back; and what a cut-over makes of the primary.
 use Rattle.std.proofs.Common.{◌≡◌, ◌≤◌, ◌<◌, ◌==◌, ℕ, zero, suc, Bool, List, Some, None, Option, Result, Ok, Err, Vec, Global, refl, ap, ◌∙◌, sym, subst, arith, if◌then◌else◌, length}
-use Rattle.std.specs.Prelude.{IfOk, OnOk}
+use Rattle.std.specs.Prelude.{IfOk}
 use Rattle.nrt_base.specs.declared.numbers.SegNo.{SegNo}
 use Rattle.disk_model.specs.Disk.{Name, Cells}
 use Rattle.file_deleter.specs.Holdings.{count_of}
@@ -10,6 +10,8 @@ use Rattle.copy_state.specs.declared.state.CopyState.{CopyState}
 use Rattle.index_primary.specs.declared.parts.PrimaryParts.{PrimaryParts}
 use Rattle.index_primary.specs.declared.states.Out.{Out}
 use Rattle.index_primary.specs.Held.{IsOwnFile}
+use Rattle.index_primary.specs.declared.states.Merging.{Merging}
+use Rattle.index_primary.specs.Merges.{merges_without}
 use Rattle.index_primary.specs.States.{out_of, is_out, states_without}
 use Rattle.index_primary.specs.Primary.{IsPrimary, KeepsHeldBytes, IsUnwritten, loose_of}
 use Rattle.index_primary.specs.Calls.{FillsUndrawn, DrawsOnly, HoldsNoNew}
@@ -18,9 +20,12 @@ use Rattle.cluster_nodes.specs.declared.held.HeldTicket.{HeldTicket}
 use Rattle.cluster_nodes.specs.declared.nodes.Node.TheVariants.{Primary, Replica}
 use Rattle.cluster_nodes.specs.declared.nodes.NodePlace.{NodePlace}
 use Rattle.cluster_nodes.specs.Places.{place_of, IsSlot}
+use Rattle.cluster_nodes.specs.Went.{ByWent}
+use Rattle.cluster_nodes.specs.declared.went.Went.{Went}
+use Rattle.cluster_nodes.specs.declared.went.Went.TheVariants.{Done, Failed}
 use Rattle.replica_node.specs.declared.parts.ReplicaParts.{ReplicaParts}
 use Rattle.cluster_nodes.proofs.Taking.{moved_one}
-use Rattle.node_merges.specs.MergeChanges.{CutsMerge}
+use Rattle.node_merges.specs.MergeChanges.{CutsMerge, GivesUpMerge}
 use Rattle.node_merges.specs.MergePlaces.{MovesPrimary, MovesReplica}
 
 module _ {D : Type 0} where
@@ -44,18 +49,20 @@ module _ {D : Type 0} where
     step = step;
   }
 
-  -- the same where it was answered so
-  pub primary_ok : {T E : Type 0} (Step : PrimaryParts D → PrimaryParts D → Type 0) (result : Result T E) (old mid new : List (Option (NodePlace D))) (p : ℕ) (q r : PrimaryParts D) (held : Vec HeldTicket Global) → IsSlot old p
+  -- the same of what a call of the node's disk gave, or where it failed
+  pub primary_went : {T E : Type 0} (Step : T → PrimaryParts D → PrimaryParts D → Type 0) (Fail : PrimaryParts D → PrimaryParts D → Type 0) (result : Result (Went T) E) (old mid new : List (Option (NodePlace D))) (p : ℕ) (q r : PrimaryParts D) (held : Vec HeldTicket Global) → IsSlot old p
       → length mid ≡ length old → ((m : ℕ) → place_of mid m ≡ (if p == m then None else place_of old m)) → length new ≡ length mid → ((m : ℕ) → place_of new m ≡ (if p == m then Some (record { node = Primary r; held = held }) else place_of mid m))
-      → place_of old p ≡ Some (record { node = Primary q; held = held }) → OnOk result (Step q r) → OnOk result (MovesPrimary Step p old new)
-  primary_ok Step (Ok x) old mid new p q r held slot cm tm cn tn there step = primary_moved Step old mid new p q r held slot cm tm cn tn there step
-  primary_ok Step (Err e) old mid new p q r held slot cm tm cn tn there step = tt
+      → place_of old p ≡ Some (record { node = Primary q; held = held }) → IfOk result (ByWent (λ x. Step x q r) (Fail q r)) → IfOk result (ByWent (λ x. MovesPrimary (Step x) p old new) (MovesPrimary Fail p old new))
+  primary_went Step Fail (Ok (Done x)) old mid new p q r held slot cm tm cn tn there step = primary_moved (Step x) old mid new p q r held slot cm tm cn tn there step
+  primary_went Step Fail (Ok Failed) old mid new p q r held slot cm tm cn tn there step = primary_moved Fail old mid new p q r held slot cm tm cn tn there step
+  primary_went Step Fail (Err e) old mid new p q r held slot cm tm cn tn there step = tt
 
-  pub replica_ok : {T E : Type 0} (Step : ReplicaParts D → ReplicaParts D → Type 0) (result : Result T E) (old mid new : List (Option (NodePlace D))) (n : ℕ) (r s : ReplicaParts D) (held : Vec HeldTicket Global) → IsSlot old n
+  pub replica_went : {T E : Type 0} (Step : T → ReplicaParts D → ReplicaParts D → Type 0) (Fail : ReplicaParts D → ReplicaParts D → Type 0) (result : Result (Went T) E) (old mid new : List (Option (NodePlace D))) (n : ℕ) (r s : ReplicaParts D) (held : Vec HeldTicket Global) → IsSlot old n
       → length mid ≡ length old → ((m : ℕ) → place_of mid m ≡ (if n == m then None else place_of old m)) → length new ≡ length mid → ((m : ℕ) → place_of new m ≡ (if n == m then Some (record { node = Replica s; held = held }) else place_of mid m))
-      → place_of old n ≡ Some (record { node = Replica r; held = held }) → OnOk result (Step r s) → OnOk result (MovesReplica Step n old new)
-  replica_ok Step (Ok x) old mid new n r s held slot cm tm cn tn there step = replica_moved Step old mid new n r s held slot cm tm cn tn there step
-  replica_ok Step (Err e) old mid new n r s held slot cm tm cn tn there step = tt
+      → place_of old n ≡ Some (record { node = Replica r; held = held }) → IfOk result (ByWent (λ x. Step x r s) (Fail r s)) → IfOk result (ByWent (λ x. MovesReplica (Step x) n old new) (MovesReplica Fail n old new))
+  replica_went Step Fail (Ok (Done x)) old mid new n r s held slot cm tm cn tn there step = replica_moved (Step x) old mid new n r s held slot cm tm cn tn there step
+  replica_went Step Fail (Ok Failed) old mid new n r s held slot cm tm cn tn there step = replica_moved Fail old mid new n r s held slot cm tm cn tn there step
+  replica_went Step Fail (Err e) old mid new n r s held slot cm tm cn tn there step = tt
 
   pub replica_answers : {T E : Type 0} (Step : T → ReplicaParts D → ReplicaParts D → Type 0) (result : Result T E) (old mid new : List (Option (NodePlace D))) (n : ℕ) (r s : ReplicaParts D) (held : Vec HeldTicket Global) → IsSlot old n
       → length mid ≡ length old → ((m : ℕ) → place_of mid m ≡ (if n == m then None else place_of old m)) → length new ≡ length mid → ((m : ℕ) → place_of new m ≡ (if n == m then Some (record { node = Replica s; held = held }) else place_of mid m))
@@ -152,3 +159,26 @@ module _ {D : Type 0} where
         has_cut_over = z.has_cut_over;
         completed = z.completed;
       }) (sym back) (ap (λ (z : PrimaryParts D). record z { dir = new.dir; files = new.files; states = new.states }) others)
+
+module _ {D : Type 0} (cells : D → Cells) where
+  -- the merge was given up, and its copy state given back
+  pub gives_back : (seg : SegNo) (state : CopyState) (old mid new : PrimaryParts D) → mid.merges ≡ merges_without seg.0 old.merges → mid ≡ record old { dir = mid.dir; files = mid.files; merges = mid.merges }
+      → KeepsHeldBytes cells old mid → HoldsNoNew old mid → DrawsOnly old mid → AppearsOnly (IsOwnFile old.infos (loose_of old)) (cells old.dir) (cells mid.dir)
+      → new.states ≡ states_without (out_of state) mid.states → new ≡ record mid { dir = new.dir; files = new.files; states = new.states } → KeepsHeldBytes cells mid new → HoldsNoNew mid new → NoneAppears (cells mid.dir) (cells new.dir)
+      → IsPrimary cells new → GivesUpMerge cells seg (states_without (out_of state)) old new
+  gives_back seg state old mid new gone others stays first drawn appears states back stays2 second none whole = record {
+    merges = ap (λ (z : PrimaryParts D). z.merges) back ∙ gone;
+    states = states ∙ ap (λ (z : PrimaryParts D). states_without (out_of state) z.states) others;
+    others = back ∙ (ap (λ (z : PrimaryParts D). record z { dir = new.dir; files = new.files; states = new.states }) others
+        ∙ ap (λ (ms : List Merging). record old { dir = new.dir; files = new.files; states = new.states; merges = ms }) (sym (ap (λ (z : PrimaryParts D). z.merges) back)));
+    stays = stays_over cells old mid new second stays stays2;
+    no_new = record { each = λ q is. second.each q (first.each q is) };
+    drawn = drawn_over old mid new drawn (λ q is. subst (λ (z : PrimaryParts D). IsUnwritten z q → IsUnwritten mid q) (sym back) (λ u. u) is);
+    appears = only_then_none (IsOwnFile old.infos (loose_of old)) (cells old.dir) (cells mid.dir) (cells new.dir) appears none;
+    whole = whole;
+  }
+
+  -- a merge whose files could not be written was given up
+  pub gives_up : (seg : SegNo) (old new : PrimaryParts D) → new.merges ≡ merges_without seg.0 old.merges → new.states ≡ old.states → new ≡ record old { dir = new.dir; files = new.files; states = new.states; merges = new.merges }
+      → KeepsHeldBytes cells old new → HoldsNoNew old new → DrawsOnly old new → AppearsOnly (IsOwnFile old.infos (loose_of old)) (cells old.dir) (cells new.dir) → IsPrimary cells new → GivesUpMerge cells seg (λ states. states) old new
+  gives_up seg old new gone states others stays no_new drawn appears whole = record { merges = gone; states = states; others = others; stays = stays; no_new = no_new; drawn = drawn; appears = appears; whole = whole }

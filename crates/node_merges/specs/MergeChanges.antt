@@ -1,5 +1,5 @@
 -- What the steps of a merge make of the primary and of the replicas to which its files are copied.
-use Rattle.std.specs.Prelude.{ℕ, ◌≡◌, ◌≢◌, ◌≤◌, ◌<◌, ◌+◌, ◌++◌, ◌∷◌, [], true, false, Bool, List, Option, Some, None, Result, IsSome, IsSomeAnd, IfSome, IfOk}
+use Rattle.std.specs.Prelude.{ℕ, ◌≡◌, ◌≢◌, ◌≤◌, ◌<◌, ◌+◌, ◌⊎◌, ◌++◌, ◌∷◌, [], true, false, Bool, List, Option, Some, None, Result, IsSome, IsSomeAnd, IfSome, IfOk}
 use Rattle.std.specs.List.{All, AllByRecursion}
 use Rattle.nrt_base.specs.declared.numbers.SegNo.{SegNo}
 use Rattle.disk_model.specs.Disk.{Name, Content, Cells, reads_of, same}
@@ -18,6 +18,7 @@ use Rattle.index_primary.specs.declared.parts.PrimaryParts.{PrimaryParts}
 use Rattle.index_primary.specs.declared.parts.PublishFault.{PublishFault}
 use Rattle.index_primary.specs.declared.states.Out.{Out}
 use Rattle.index_primary.specs.Cut.{last_number}
+use Rattle.index_primary.specs.Merges.{merges_without}
 use Rattle.index_primary.specs.Held.{IsOwnFile}
 use Rattle.index_primary.specs.States.{out_of, is_out, states_without, IsStateOf}
 use Rattle.index_primary.specs.Written.{names_of, ReadsSo}
@@ -36,6 +37,10 @@ use Rattle.node_merges.specs.declared.copies.CopyStep.TheVariants.{Gone, Waits, 
 -- the first file that the job wants is that of the stored documents of this segment
 abbrev pub is_copy_of : ℕ → Job → Bool
 is_copy_of seg j = elim j.want.files [ [] ↦ false | f ∷ fs ↦ same f.0 (part_name_of seg Docs) ]
+
+-- the name is of a file that the copy of this number wants, or the temporary name of one that it lacks
+abbrev pub IsNameOfCopy : ℕ → Job → Name → Type 0
+IsNameOfCopy number c q = (0 < times (meta_names c.want.files) q) ⊎ ((x : Name) × (0 < times c.missing x) × (q ≡ temp_name_of x number))
 
 module _ {D : Type 0} where
   -- ---- the primary
@@ -87,6 +92,18 @@ module _ {D : Type 0} where
     }
     pub stays : KeepsHeldBytes cells old new
     pub fresh : FillsUndrawn old new
+    pub drawn : DrawsOnly old new
+    pub appears : AppearsOnly (IsOwnFile old.infos (loose_of old)) (cells old.dir) (cells new.dir)
+    pub whole : IsPrimary cells new
+
+  -- The disk failed: the merge has ended, and these copy states are out still. The primary holds nothing more, and what came to stand has names
+  -- of its own segments.
+  pub record GivesUpMerge (cells : D → Cells) (seg : SegNo) (still : List Out → List Out) (old new : PrimaryParts D) : Type 0 where
+    pub merges : new.merges ≡ merges_without seg.0 old.merges
+    pub states : new.states ≡ still old.states
+    pub others : new ≡ record old { dir = new.dir; files = new.files; states = new.states; merges = new.merges }
+    pub stays : KeepsHeldBytes cells old new
+    pub no_new : HoldsNoNew old new
     pub drawn : DrawsOnly old new
     pub appears : AppearsOnly (IsOwnFile old.infos (loose_of old)) (cells old.dir) (cells new.dir)
     pub whole : IsPrimary cells new
@@ -154,6 +171,16 @@ module _ {D : Type 0} where
     pub standing : AreStanding cells old → AreStanding cells new
     pub sourced : KeepsSource cells old new
     pub appears : IfSome (copy_at number old.copies.running) (λ c. AppearsOnly (λ q. 0 < times (meta_names c.want.files) q) (cells old.dir) (cells new.dir))
+
+  -- The disk failed: the copy has ended, and what it had was given back; files read on as they are at a source that reads so, and what
+  -- appears has names of the copy.
+  pub record LosesMerged (cells : D → Cells) (Reads : (Name → Content) → Type 0) (number : ℕ) (old new : ReplicaParts D) : Type 0 where
+    pub others : new ≡ record old { dir = new.dir; files = new.files; copies = new.copies; known = new.known }
+    pub copies : new.copies ≡ record old.copies { running = copies_without number old.copies.running }
+    pub whole : IsWholeReplica cells new
+    pub standing : AreStanding cells old → AreStanding cells new
+    pub sourced : (source : Name → Content) → Reads source → IsSourced source cells old → IsSourced source cells new
+    pub appears : IfSome (copy_at number old.copies.running) (λ c. AppearsOnly (IsNameOfCopy number c) (cells old.dir) (cells new.dir))
 
   -- The copy has ended, and what it had was given back.
   pub record DropsMerged (cells : D → Cells) (number : ℕ) (old new : ReplicaParts D) : Type 0 where

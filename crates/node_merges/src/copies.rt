@@ -1,16 +1,18 @@
 //! The copies of a merged segment at a replica.
 
-ghost use Rattle.std.specs.Prelude.{◌≡◌, ◌<◌, ◌+◌, ◌^◌, true, false, None, Some, IsSome, IfSome, IfOk, OnOk};
+ghost use Rattle.std.specs.Prelude.{◌≡◌, ◌<◌, ◌+◌, ◌^◌, true, false, None, Some, IsSome, IfSome, IfOk, OnOk, ⊤};
 ghost use Rattle.copy_state.specs.Meta.{IsMetaOf};
 ghost use Rattle.copy_state.specs.States.{IsCopyState};
 ghost use Rattle.replica_node.specs.Merges.{copy_at};
 ghost use Rattle.cluster_nodes.specs.Places.{place_of, IsSlot};
 ghost use Rattle.cluster_nodes.specs.JobChanges.{HasReplica};
-ghost use Rattle.node_merges.specs.MergeChanges.{is_copy_of, MaySend, SendsMerged, IsStepOf, MayTakeMerged, TakesMerged, MaySettle, SettlesMerged, DropsMerged};
+ghost use Rattle.cluster_nodes.specs.Went.{ByWent};
+ghost use Rattle.node_merges.specs.MergeChanges.{is_copy_of, MaySend, SendsMerged, IsStepOf, MayTakeMerged, TakesMerged, MaySettle, SettlesMerged, LosesMerged, DropsMerged};
 ghost use Rattle.node_merges.specs.MergePlaces.{IsReplicaIn, MovesReplica, IsStepAt, RunsCopyOf};
 
 use cluster_nodes::{
-    Node, NodePlace, Replica, copy_runs, lacks, next_file, put, share_state, take_replica,
+    Node, NodePlace, Replica, Went, copy_runs, is_dir_failed, lacks, next_file, put, share_state,
+    take_replica,
 };
 use copy_job::{CopyJob, Part};
 use copy_state::{CopyState, FileMetaData};
@@ -156,78 +158,6 @@ pub fn runs_in<D: Dir + Drop>(
     }
 }
 
-// Puts a part into a copy of a merged segment, where it lacks it still.
-fn take_merged<D: Dir + Drop>(
-    replica: &mut Replica<D>,
-    job: u64,
-    part: Part,
-) -> Result<(), NoMemory>
-    requires may { MayTakeMerged job part replica.old }
-    requires meta { IsMetaOf part.bytes part.meta }
-    ensures { OnOk result (TakesMerged D.cells job part replica.old replica.new) }
-{
-    replica.version();
-    copy_runs::<D>();
-    let Some(copy) = replica.precopy(job) else {
-        unreachable!()
-    };
-    if !lacks(copy, &part.name) {
-        return Ok(());
-    }
-    let Ok(()) = replica.arrived(job, part) else {
-        return Err(AllocError);
-    };
-    Ok(())
-}
-
-/// Puts a part into a copy of a merged segment at the replica in this place, where it lacks it still.
-pub fn take_merged_in<D: Dir + Drop>(
-    places: &mut Vec<Option<NodePlace<D>>>,
-    n: NodeNo,
-    job: u64,
-    part: Part,
-) -> Result<(), NoMemory>
-    requires may { IsReplicaIn (MayTakeMerged job part) n.0 places.old.items }
-    requires meta { IsMetaOf part.bytes part.meta }
-    ensures { OnOk result (MovesReplica (TakesMerged D.cells job part) n.0
-        places.old.items places.new.items) }
-{
-    let (mut replica, held) = take_replica(places, n);
-    let taken = take_merged(&mut replica, job, part);
-    let node = Node::Replica(replica);
-    put(places, n, NodePlace { node, held });
-    taken
-}
-
-// The files of a copy of which nothing is missing are pending from now on.
-fn settle<D: Dir + Drop>(alloc: Global, replica: &mut Replica<D>, job: u64) -> Result<(), NoMemory>
-    requires { MaySettle job replica.old }
-    ensures { OnOk result (SettlesMerged D.cells job replica.old replica.new) }
-{
-    let Ok(()) = replica.finish_precopy(alloc, job) else {
-        return Err(AllocError);
-    };
-    Ok(())
-}
-
-/// The files of a copy at the replica in this place, of which nothing is missing, are pending from now on.
-pub fn settle_in<D: Dir + Drop>(
-    alloc: Global,
-    places: &mut Vec<Option<NodePlace<D>>>,
-    n: NodeNo,
-    job: u64,
-) -> Result<(), NoMemory>
-    requires { IsReplicaIn (MaySettle job) n.0 places.old.items }
-    ensures { OnOk result (MovesReplica (SettlesMerged D.cells job) n.0
-        places.old.items places.new.items) }
-{
-    let (mut replica, held) = take_replica(places, n);
-    let settled = settle(alloc, &mut replica, job);
-    let node = Node::Replica(replica);
-    put(places, n, NodePlace { node, held });
-    settled
-}
-
 /// Ends a copy of a merged segment. Takes no memory.
 pub fn drop_copy<D: Dir + Drop>(replica: &mut Replica<D>, job: u64)
     requires { IsSome (copy_at job replica.old.copies.running) }
@@ -236,6 +166,98 @@ pub fn drop_copy<D: Dir + Drop>(replica: &mut Replica<D>, job: u64)
     replica.version();
     copy_runs::<D>();
     replica.fail(job);
+}
+
+// Puts a part into a copy of a merged segment, where it lacks it still. Where the disk fails the copy has ended.
+fn take_merged<D: Dir + Drop>(
+    replica: &mut Replica<D>,
+    job: u64,
+    part: Part,
+) -> Result<Went<()>, NoMemory>
+    requires may { MayTakeMerged job part replica.old }
+    requires meta { IsMetaOf part.bytes part.meta }
+    ensures { IfOk result (ByWent (λ done. TakesMerged D.cells job part replica.old replica.new)
+        (LosesMerged D.cells (λ source. source part.name ≡ Some part.bytes) job
+        replica.old replica.new)) }
+{
+    replica.version();
+    copy_runs::<D>();
+    let Some(copy) = replica.precopy(job) else {
+        unreachable!()
+    };
+    if !lacks(copy, &part.name) {
+        return Ok(Went::Done(()));
+    }
+    match replica.arrived(job, part) {
+        Ok(()) => Ok(Went::Done(())),
+        Err(fault) => {
+            is_dir_failed(fault)?;
+            drop_copy(replica, job);
+            Ok(Went::Failed)
+        }
+    }
+}
+
+/// Puts a part into a copy of a merged segment at the replica in this place, where it lacks it still. Where the disk fails the copy has
+/// ended.
+pub fn take_merged_in<D: Dir + Drop>(
+    places: &mut Vec<Option<NodePlace<D>>>,
+    n: NodeNo,
+    job: u64,
+    part: Part,
+) -> Result<Went<()>, NoMemory>
+    requires may { IsReplicaIn (MayTakeMerged job part) n.0 places.old.items }
+    requires meta { IsMetaOf part.bytes part.meta }
+    ensures { IfOk result (ByWent (λ done. MovesReplica (TakesMerged D.cells job part) n.0
+        places.old.items places.new.items)
+        (MovesReplica (LosesMerged D.cells (λ source. source part.name ≡ Some part.bytes) job) n.0
+        places.old.items places.new.items)) }
+{
+    let (mut replica, held) = take_replica(places, n);
+    let taken = take_merged(&mut replica, job, part);
+    let node = Node::Replica(replica);
+    put(places, n, NodePlace { node, held });
+    taken
+}
+
+// The files of a copy of which nothing is missing are pending from now on. Where the disk fails the copy has ended.
+fn settle<D: Dir + Drop>(
+    alloc: Global,
+    replica: &mut Replica<D>,
+    job: u64,
+) -> Result<Went<()>, NoMemory>
+    requires { MaySettle job replica.old }
+    ensures { IfOk result (ByWent (λ done. SettlesMerged D.cells job replica.old replica.new)
+        (LosesMerged D.cells (λ source. ⊤) job replica.old replica.new)) }
+{
+    match replica.finish_precopy(alloc, job) {
+        Ok(()) => Ok(Went::Done(())),
+        Err(fault) => {
+            is_dir_failed(fault)?;
+            Ok(Went::Failed)
+        }
+    }
+}
+
+/// The files of a copy at the replica in this place, of which nothing is missing, are pending from now on. Where the disk fails the copy
+/// has ended.
+pub fn settle_in<D: Dir + Drop>(
+    alloc: Global,
+    places: &mut Vec<Option<NodePlace<D>>>,
+    n: NodeNo,
+    job: u64,
+) -> Result<Went<()>, NoMemory>
+    requires { IsReplicaIn (MaySettle job) n.0 places.old.items }
+    ensures { IfOk result (ByWent (λ done. MovesReplica (SettlesMerged D.cells job) n.0
+        places.old.items places.new.items)
+        (MovesReplica (LosesMerged D.cells (λ source. ⊤) job) n.0
+        places.old.items places.new.items)) }
+{
+    let (mut replica, held) = take_replica(places, n);
+    let settled = settle(alloc, &mut replica, job);
+    let node = Node::Replica(replica);
+    put(places, n, NodePlace { node, held });
+    settled
 }
 
 /// Ends a copy of a merged segment at the replica in this place. Takes no memory.

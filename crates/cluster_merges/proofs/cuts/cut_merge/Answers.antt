@@ -1,40 +1,45 @@
-use Rattle.std.proofs.Common.{◌≡◌, ◌+◌, ◌∙◌, None, List, ap}
+use Rattle.std.proofs.Common.{◌≡◌, ◌≤◌, ◌+◌, ◌*◌, ◌∙◌, ℕ, List, length, true, Some, None, ap, sym, refl, arith}
+use Rattle.history_rules.specs.Nodes.{IsNode, primary_of}
 use Rattle.history_rules.specs.Lines.{publish_in_flight}
 use Rattle.history_book.specs.Log.{Log, printed}
-use Rattle.merge_tasks.specs.declared.drains.DrainCount.{DrainCount}
-use Rattle.merge_tasks.specs.Board.{done_under, counts_one}
-use Rattle.cluster_state.proofs.Ledgers.{asked_of}
-use Rattle.cluster_merges.proofs.CutPaths.{has_row, has_spread, is_on, may_cut, cut_all, cuts_over}
+use Rattle.merge_tasks.specs.Board.{open_merge, spread_at, is_copied}
+use Rattle.cluster_state.specs.Run.{Run}
+use Rattle.cluster_state.proofs.Ledgers.{asked_of, asked_size}
+use Rattle.cluster_merges.proofs.InsideSteps.{all_is}
+use Rattle.cluster_merges.proofs.TaskPaths.{all_at}
+use Rattle.cluster_merges.proofs.CutPaths.{is_on}
+use Rattle.cluster_merges.proofs.TaskBehind.{line_there, cut_so}
 use Rattle.cluster_merges.proofs.cuts.cut_merge.Goals as goal
 
-pub close-requires : goal.close-requires
-close-requires g c = has_row g.D.Dir.cells c.args.cluster.now c.cluster.inside.places.items c.cluster.inside.ledger c.cluster.inside.tasks c.args.p c.args.seg c.cluster.view_is c.requires.running c.cluster.invariant
-    c.requires.node c.requires.primary c.requires.copied c.requires.calm
-
 pub unreachable-requires : goal.unreachable-requires
-unreachable-requires g c = has_spread g.D.Dir.cells c.args.cluster.now c.cluster.inside.places.items c.cluster.inside.ledger c.cluster.inside.tasks c.args.p c.args.seg c.cluster.view_is c.requires.running c.cluster.invariant
-    c.requires.node c.requires.primary c.requires.copied c.requires.calm c.close.result c.close.ensures.spread c.in_default.not-Some
+unreachable-requires g c = line_there c.merge_on.result _ c.merge_on.ensures (is_on g.D.Dir.cells c.cluster.inside.places.items c.cluster.inside.ledger c.cluster.inside.tasks c.args.p c.args.seg (all_at c.cluster.view_is c.requires.running c.cluster.invariant) (asked_size (λ (k : ℕ). IsNode k c.args.p.0) c.cluster.view_is refl c.requires.node) (asked_of (λ (l : Log). primary_of (printed l) ≡ Some c.args.p) c.cluster.view_is refl c.requires.primary) (ap (λ (x : Run). is_copied (spread_at (open_merge c.args.seg.0 x.rest.tasks.rows))) c.cluster.view_is ∙ c.requires.copied) (asked_of (λ (l : Log). publish_in_flight (printed l) ≡ None) c.cluster.view_is refl c.requires.calm)) c.in_default.not-Some
 
-pub cut_in-requires : goal.cut_in-requires
-cut_in-requires g c = may_cut g.D.Dir.cells c.args.cluster.now c.cluster.inside.places.items c.cluster.inside.ledger c.cluster.inside.tasks c.args.p c.args.seg c.cluster.view_is c.requires.running c.cluster.invariant
-    c.requires.node c.requires.primary c.requires.copied c.requires.calm c.in-Some.spread c.in-Some.ensures.spread
+pub cut_there-requires-clause-room : goal.cut_there-requires-clause-room
+cut_there-requires-clause-room g c = let room = c.in_ok-before.ensures.room in let same = c.as_slice.ensures.len in omega (arith, room, same)
 
-pub end_merge-requires-clause-on : goal.end_merge-requires-clause-on
-end_merge-requires-clause-on g c = is_on g.D.Dir.cells c.args.cluster.now c.cluster.inside.places.items c.cluster.inside.ledger c.cluster.inside.tasks c.args.p c.args.seg c.cluster.view_is c.requires.running c.cluster.invariant
-    c.requires.node c.requires.primary c.requires.copied c.requires.calm c.reserve.new.self c.in_ok-reserve.ensures.log
+pub cut_there-requires-clause-before : goal.cut_there-requires-clause-before
+cut_there-requires-clause-before g c = c.as_slice.ensures.value ∙ c.in_ok-before.ensures.before
 
-pub end_merge-requires-clause-calm : goal.end_merge-requires-clause-calm
-end_merge-requires-clause-calm g c is = asked_of (λ (l : Log). publish_in_flight (printed l) ≡ None) c.cluster.view_is c.in_ok-reserve.ensures.log c.requires.calm
+pub cut_there-requires-clause-shown : goal.cut_there-requires-clause-shown
+cut_there-requires-clause-shown g c =
+    all_is g.D.Dir.cells c.cluster.inside.ledger c.met_before.new.ledger c.cluster.inside.tasks c.cluster.inside.places.items c.met_before.ensures.log c.met_before.ensures.nodes c.met_before.ensures.cut (all_at c.cluster.view_is c.requires.running c.cluster.invariant)
+
+pub cut_there-requires-clause-node : goal.cut_there-requires-clause-node
+cut_there-requires-clause-node g c = asked_size (λ (k : ℕ). IsNode k c.args.p.0) c.cluster.view_is c.met_before.ensures.nodes c.requires.node
+
+pub cut_there-requires-clause-primary : goal.cut_there-requires-clause-primary
+cut_there-requires-clause-primary g c = asked_of (λ (l : Log). primary_of (printed l) ≡ Some c.args.p) c.cluster.view_is c.met_before.ensures.log c.requires.primary
+
+pub cut_there-requires-clause-copied : goal.cut_there-requires-clause-copied
+cut_there-requires-clause-copied g c = ap (λ (x : Run). is_copied (spread_at (open_merge c.args.seg.0 x.rest.tasks.rows))) c.cluster.view_is ∙ c.requires.copied
+
+pub cut_there-requires-clause-calm : goal.cut_there-requires-clause-calm
+cut_there-requires-clause-calm g c = asked_of (λ (l : Log). publish_in_flight (printed l) ≡ None) c.cluster.view_is c.met_before.ensures.log c.requires.calm
 
 pub invariant_of-cluster-2 : goal.invariant_of-cluster-2
-invariant_of-cluster-2 g c = λ running. cut_all g.D.Dir.cells c.args.cluster.now c.cluster.inside.places.items c.cluster.inside.ledger c.cluster.inside.tasks c.args.p c.args.seg c.cluster.view_is c.requires.running c.cluster.invariant
-    c.requires.node c.requires.primary c.requires.copied c.requires.calm c.in-Some.spread c.in-Some.ensures.spread c.files_last.ensures c.cut_in.new.places.items c.in_ok-cut_in.ensures
-    c.reserve.new.self c.end_merge.new.self c.keep.new.self c.count.new.self c.args.line c.args.by c.in_ok-reserve.ensures.log c.in_ok-reserve.ensures.nodes c.end_merge.ensures.log c.end_merge.ensures.nodes c.end_merge.ensures.cut
-    c.keep.ensures.log c.keep.ensures.nodes c.keep.ensures.cut (c.count.ensures.rows ∙ c.close.ensures.rows) (c.count.ensures.posted ∙ c.close.ensures.posted)
-    (λ x. c.in_ok-count.ensures.counts x ∙ ap (λ (l : List DrainCount). done_under x l + counts_one x c.args.by) c.close.ensures.counts)
+invariant_of-cluster-2 g c = λ running. c.in_ok-cut_there.ensures.shown
 
 pub returns-clause-ok : goal.returns-clause-ok
-returns-clause-ok g c = cuts_over g.D.Dir.cells c.args.cluster.now c.cluster.inside.places.items c.cluster.inside.ledger c.cluster.inside.tasks c.args.p c.args.seg c.cluster.view_is c.requires.running c.cluster.invariant
-    c.requires.node c.requires.primary c.requires.copied c.requires.calm c.in-Some.spread c.in-Some.ensures.spread c.files_last.ensures c.cut_in.new.places.items c.in_ok-cut_in.ensures
-    c.reserve.new.self c.end_merge.new.self c.keep.new.self c.count.new.self c.args.line c.args.by c.in_ok-reserve.ensures.log c.in_ok-reserve.ensures.nodes c.end_merge.ensures.log c.end_merge.ensures.nodes c.end_merge.ensures.cut
-    c.keep.ensures.log c.keep.ensures.nodes c.keep.ensures.cut (c.count.ensures.rows ∙ c.close.ensures.rows) (c.count.ensures.posted ∙ c.close.ensures.posted)
+returns-clause-ok g c =
+    cut_so g.D.FaultDir.planned c.args.cluster.now c.cluster.inside.ledger c.met_before.new.ledger c.cluster.inside.tasks c.cluster.inside.places.items c.cut_there.new.places.items c.cluster.view_is c.met_before.ensures.log c.met_before.ensures.nodes c.met_before.ensures.cut
+    refl refl refl _ refl c.cut_there.new.ledger c.cut_there.new.tasks refl refl c.in-Some.at c.args.line c.args.seg c.args.by (sym c.merge_on.ensures ∙ c.in-Some.is) c.args.p c.requires.primary _ c.in_ok-cut_there.ensures.ok

@@ -1,29 +1,53 @@
-use Rattle.std.proofs.Common.{◌≡◌, ℕ, Some, refl}
+use Rattle.std.proofs.Common.{◌≡◌, ◌∙◌, ℕ, List, true, Some, ap, sym, subst, refl, arith}
 use Rattle.history_rules.specs.Nodes.{IsNode}
-use Rattle.history_book.specs.Log.{Log}
+use Rattle.history_rules.specs.Legal.{IsLegalPast}
+use Rattle.history_book.specs.Log.{Log, printed}
 use Rattle.merge_tasks.specs.TaskLog.{carried_out}
-use Rattle.cluster_state.proofs.Frames.{slot_at}
+use Rattle.merge_tasks.specs.Board.{open_merge, spread_at, has_copy_task}
+use Rattle.cluster_nodes.specs.Went.{ByWent}
+use Rattle.cluster_state.specs.Run.{Run}
 use Rattle.cluster_state.proofs.Ledgers.{asked_of, asked_size, legal_of}
-use Rattle.cluster_merges.proofs.TaskPaths.{all_at, as_before}
-use Rattle.cluster_merges.proofs.CopyCalls.{nothing_done, may_take, taken_all}
+use Rattle.cluster_merges.specs.TaskMet.{mets, behind}
+use Rattle.cluster_merges.specs.CopyTurns.{MeetsOf, FailsCopyOf}
+use Rattle.cluster_merges.proofs.InsideSteps.{all_is}
+use Rattle.cluster_merges.proofs.TaskPaths.{all_at}
+use Rattle.cluster_merges.proofs.CopyFacts.{copy_on}
+use Rattle.cluster_merges.proofs.TaskBehind.{line_there, takes_so}
 use Rattle.cluster_merges.proofs.precopies.take_merged.Goals as goal
 
-pub runs_in-requires : goal.runs_in-requires
-runs_in-requires g c = slot_at g.D.Dir.cells c.args.cluster.now _ _ c.args.n.0 _ _ c.cluster.view_is c.requires.running (λ e. (c.cluster.invariant e).0) c.requires.node
+pub unreachable-requires : goal.unreachable-requires
+unreachable-requires g c =
+    line_there c.merge_on.result _ c.merge_on.ensures (copy_on c.cluster.inside.ledger.nodes c.cluster.inside.ledger.log c.cluster.inside.tasks c.args.seg.0 c.args.n.0 c.args.job (all_at c.cluster.view_is c.requires.running c.cluster.invariant).2.tasks (ap (λ (x : Run). has_copy_task c.args.n.0 c.args.job (spread_at (open_merge c.args.seg.0 x.rest.tasks.rows))) c.cluster.view_is ∙ c.requires.sent)) c.in_default.not-Some
 
-pub returns-then-not-runs_in-clause-ok : goal.returns-then-not-runs_in-clause-ok
-returns-then-not-runs_in-clause-ok g c = nothing_done c.args.cluster.now c.requires.running
+pub take_there-requires-clause-room : goal.take_there-requires-clause-room
+take_there-requires-clause-room g c = let room = c.in_ok-before.ensures.room in let same = c.as_slice.ensures.len in omega (arith, room, same)
 
-pub take_merged_in-requires-clause-may : goal.take_merged_in-requires-clause-may
-take_merged_in-requires-clause-may g c =
-    may_take g.D.Dir.cells c.cluster.inside.ledger c.cluster.inside.tasks c.cluster.inside.places.items (all_at c.cluster.view_is c.requires.running c.cluster.invariant) (legal_of c.book.ensures.nodes c.book.ensures.log c.is_legal.ensures.legal) c.args.seg c.args.n c.args.job
-    (asked_size (λ (k : ℕ). IsNode k c.args.n.0) c.cluster.view_is refl c.requires.node) (c.if-not-runs_in.ensures.runs refl) c.args.part (asked_of (λ (l : Log). carried_out c.args.part.name l ≡ Some c.args.part.bytes) c.cluster.view_is refl c.requires.out) c.requires.meta
+pub take_there-requires-clause-before : goal.take_there-requires-clause-before
+take_there-requires-clause-before g c = (c.as_slice.ensures.value ∙ c.in_ok-before.ensures.before)
+
+pub take_there-requires-clause-shown : goal.take_there-requires-clause-shown
+take_there-requires-clause-shown g c =
+    all_is g.D.Dir.cells c.cluster.inside.ledger c.met_before.new.ledger c.cluster.inside.tasks c.cluster.inside.places.items c.met_before.ensures.log c.met_before.ensures.nodes c.met_before.ensures.cut (all_at c.cluster.view_is c.requires.running c.cluster.invariant)
+
+pub take_there-requires-clause-node : goal.take_there-requires-clause-node
+take_there-requires-clause-node g c = asked_size (λ (k : ℕ). IsNode k c.args.n.0) c.cluster.view_is c.met_before.ensures.nodes c.requires.node
+
+pub take_there-requires-clause-sent : goal.take_there-requires-clause-sent
+take_there-requires-clause-sent g c = (ap (λ (x : Run). has_copy_task c.args.n.0 c.args.job (spread_at (open_merge c.args.seg.0 x.rest.tasks.rows))) c.cluster.view_is ∙ c.requires.sent)
 
 pub invariant_of-cluster-2 : goal.invariant_of-cluster-2
-invariant_of-cluster-2 g c = λ running.
-    taken_all g.D.Dir.cells c.cluster.inside.ledger c.cluster.inside.tasks c.cluster.inside.places.items (all_at c.cluster.view_is c.requires.running c.cluster.invariant) (legal_of c.book.ensures.nodes c.book.ensures.log c.is_legal.ensures.legal) c.args.seg c.args.n c.args.job
-    (asked_size (λ (k : ℕ). IsNode k c.args.n.0) c.cluster.view_is refl c.requires.node) (c.if-not-runs_in.ensures.runs refl) c.args.part (asked_of (λ (l : Log). carried_out c.args.part.name l ≡ Some c.args.part.bytes) c.cluster.view_is refl c.requires.out) c.requires.meta
-    _ c.in_ok-take_merged_in.ensures
+invariant_of-cluster-2 g c = λ running. c.in_ok-went.ensures.shown
+
+pub take_there-requires-clause-legal : goal.take_there-requires-clause-legal
+take_there-requires-clause-legal g c = legal_of (c.book.ensures.nodes ∙ sym c.met_before.ensures.nodes) (c.book.ensures.log ∙ sym c.met_before.ensures.log) c.is_legal.ensures.legal
+
+pub take_there-requires-clause-out : goal.take_there-requires-clause-out
+take_there-requires-clause-out g c = asked_of (λ (l : Log). carried_out c.args.part.name l ≡ Some c.args.part.bytes) c.cluster.view_is c.met_before.ensures.log c.requires.out
 
 pub returns-clause-ok : goal.returns-clause-ok
-returns-clause-ok g c = as_before c.args.cluster.now c.cluster.inside.ledger c.cluster.inside.ledger c.cluster.inside.tasks c.cluster.view_is refl refl c.cluster.inside.tasks _ _ _ refl refl
+returns-clause-ok g c =
+    takes_so g.D.FaultDir.planned c.args.cluster.now c.cluster.inside.ledger c.met_before.new.ledger c.cluster.inside.tasks c.cluster.inside.places.items c.take_there.new.places.items c.cluster.view_is c.met_before.ensures.log c.met_before.ensures.nodes c.met_before.ensures.cut
+    refl refl refl _ refl c.take_there.new.ledger c.take_there.new.tasks refl c.in-Some.at c.args.line c.args.seg c.args.by c.args.n c.args.job (sym c.merge_on.ensures ∙ c.in-Some.is) c.in_ok-went.went
+    (subst (λ (olds : List (ℕ × ℕ)). ByWent (λ done. MeetsOf (behind c.in-Some.at olds (mets g.D.FaultDir.planned c.take_there.new.places.items) c.met_before.new.ledger) c.take_there.new.ledger c.cluster.inside.tasks c.take_there.new.tasks)
+    (FailsCopyOf c.args.line c.args.seg c.args.by c.args.n c.args.n c.args.job olds (mets g.D.FaultDir.planned c.take_there.new.places.items)
+    (behind c.in-Some.at olds (mets g.D.FaultDir.planned c.take_there.new.places.items) c.met_before.new.ledger) c.take_there.new.ledger c.cluster.inside.tasks c.take_there.new.tasks) c.in_ok-went.went) (c.as_slice.ensures.value ∙ c.in_ok-before.ensures.before) c.in_ok-went.ensures.ok)

@@ -1,4 +1,4 @@
-use Rattle.std.proofs.Common.{◌≡◌, ◌∙◌, Bool, true, false, List, refl, ap, sym, subst}
+use Rattle.std.proofs.Common.{◌≡◌, ◌∙◌, Bool, true, false, List, inl, inr, refl, ap, sym, subst}
 use Rattle.history_rules.specs.Nodes.{primary_of}
 use Rattle.history_book.specs.Jobs.{job_at}
 use Rattle.history_book.specs.Log.{Log, printed}
@@ -45,4 +45,11 @@ returns-in-Ends-clause-ok g c =
     let test : has_copy_task c.args.n.0 c.args.job (spread_at (open_merge c.args.seg.0 c.args.state.now.rest.tasks.rows)) ≡ true = ap (λ (b : Board). has_copy_task c.args.n.0 c.args.job (spread_at (open_merge c.args.seg.0 b.rows))) (sym tasks) ∙ sym c.if-not-has_copy_task.ensures in
     let turn = subst (λ (t : CopyTurn). TurnsCopy c.args.line c.args.seg c.args.by c.args.n c.args.job c.args.state.now c.next_merged.new.cluster t) c.in-Ends.is c.in_ok-next_merged.ensures.ok in
     subst (λ (t : Bool). EndsCopyOnce c.args.line c.args.seg c.args.by c.args.n c.args.job c.args.state.now c.next_merged.new.cluster t) (sym test)
-    (turn, subst (λ (t : CopyTurn). IsTurnWhere (misses_at c.args.seg.0 c.args.n.0 c.args.job c.args.state.now) (job_at c.args.n.0 c.args.state.now.log) t) c.in-Ends.is c.in_ok-next_merged.ensures.turn)
+    (inl (turn, subst (λ (t : CopyTurn). IsTurnWhere (misses_at c.args.seg.0 c.args.n.0 c.args.job c.args.state.now) (job_at c.args.n.0 c.args.state.now.log) t) c.in-Ends.is c.in_ok-next_merged.ensures.turn))
+
+pub returns-in-Fails-clause-ok : goal.returns-in-Fails-clause-ok
+returns-in-Fails-clause-ok g c =
+    let tasks : c.state.inside.tasks ≡ c.args.state.now.rest.tasks = ap (λ (r : Run). r.rest.tasks) c.state.view_is in
+    let test : has_copy_task c.args.n.0 c.args.job (spread_at (open_merge c.args.seg.0 c.args.state.now.rest.tasks.rows)) ≡ true = ap (λ (b : Board). has_copy_task c.args.n.0 c.args.job (spread_at (open_merge c.args.seg.0 b.rows))) (sym tasks) ∙ sym c.if-not-has_copy_task.ensures in
+    subst (λ (t : Bool). EndsCopyOnce c.args.line c.args.seg c.args.by c.args.n c.args.job c.args.state.now c.next_merged.new.cluster t) (sym test)
+    (inr (subst (λ (t : CopyTurn). TurnsCopy c.args.line c.args.seg c.args.by c.args.n c.args.job c.args.state.now c.next_merged.new.cluster t) c.in-Fails.is c.in_ok-next_merged.ensures.ok))

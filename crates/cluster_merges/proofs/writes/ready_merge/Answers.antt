@@ -1,71 +1,58 @@
-use Rattle.std.proofs.Common.{◌≡◌, List, length, ap, ◌∙◌, arith}
-use Rattle.merge_tasks.specs.declared.tasks.Sent.{Sent}
-use Rattle.cluster_merges.specs.MergePaths.{begun_log}
-use Rattle.cluster_merges.proofs.ReadyPaths.{ended_before, can_ready, open_there, is_copy, may_send_all, written_at, has_spread, as_many, ready_all, writes_merge}
+use Rattle.std.proofs.Common.{◌≡◌, ◌+◌, ◌∙◌, ℕ, List, length, true, Some, ap, sym, subst, refl, arith}
+use Rattle.nrt_base.specs.declared.numbers.NodeNo.{NodeNo}
+use Rattle.history_rules.specs.Nodes.{IsNode, primary_of}
+use Rattle.history_book.specs.Log.{Log, printed}
+use Rattle.merge_tasks.specs.Board.{open_merge, is_unwritten}
+use Rattle.cluster_state.specs.Run.{Run}
+use Rattle.cluster_state.specs.Settles.{AreReplicas}
+use Rattle.cluster_state.proofs.Ledgers.{asked_of, asked_size}
+use Rattle.cluster_merges.specs.MergePaths.{IsMergedOut}
+use Rattle.cluster_merges.proofs.InsideSteps.{all_is}
+use Rattle.cluster_merges.proofs.TaskPaths.{all_at}
+use Rattle.cluster_merges.proofs.ReadyPaths.{is_on}
+use Rattle.cluster_merges.proofs.TaskBehind.{line_there, built_so}
 use Rattle.cluster_merges.proofs.writes.ready_merge.Goals as goal
 
-pub ready_in-requires : goal.ready_in-requires
-ready_in-requires g c = can_ready g.D.Dir.cells c.args.cluster.now c.cluster.inside.ledger c.cluster.inside.tasks c.cluster.inside.places.items c.args.p c.args.seg c.args.merged
-    c.cluster.view_is c.requires.running c.cluster.invariant c.requires.node c.requires.primary c.requires.unwritten c.requires.merged
+pub unreachable-requires : goal.unreachable-requires
+unreachable-requires g c =
+    line_there c.merge_on.result _ c.merge_on.ensures
+    (is_on g.D.Dir.cells c.cluster.inside.ledger c.cluster.inside.tasks c.cluster.inside.places.items c.args.p c.args.seg c.args.merged (all_at c.cluster.view_is c.requires.running c.cluster.invariant)
+    (asked_size (λ (k : ℕ). IsNode k c.args.p.0) c.cluster.view_is refl c.requires.node) (asked_of (λ (l : Log). primary_of (printed l) ≡ Some c.args.p) c.cluster.view_is refl c.requires.primary)
+    (ap (λ (x : Run). is_unwritten (open_merge c.args.seg.0 x.rest.tasks.rows)) c.cluster.view_is ∙ c.requires.unwritten) (asked_of (λ (l : Log). IsMergedOut l c.args.seg c.args.merged) c.cluster.view_is refl c.requires.merged))
+    c.in_default.not-Some
 
-pub write-requires : goal.write-requires
-write-requires g c = open_there g.D.Dir.cells c.args.cluster.now c.cluster.inside.ledger c.cluster.inside.tasks c.cluster.inside.places.items c.args.p c.args.seg c.args.merged
-    c.cluster.view_is c.requires.running c.cluster.invariant c.requires.node c.requires.primary c.requires.unwritten c.requires.merged
+pub ready_there-requires-clause-room : goal.ready_there-requires-clause-room
+ready_there-requires-clause-room g c =
+    let room = c.in_ok-before.ensures.room in let many = c.as_slice-2.ensures.len in let same = c.as_slice.ensures.len in let count = c.len.ensures in omega (arith, room, many, same, count)
 
-pub send_all-requires-clause-copy : goal.send_all-requires-clause-copy
-send_all-requires-clause-copy g c = is_copy g.D.Dir.cells c.args.cluster.now c.cluster.inside.ledger c.cluster.inside.tasks c.cluster.inside.places.items c.args.p c.args.seg c.args.merged
-    c.cluster.view_is c.requires.running c.cluster.invariant c.requires.node c.requires.primary c.requires.unwritten c.requires.merged
-    c.in_ok-state.state c.ready_in.new.places.items c.in_ok-state.ensures c.in_ok-copy.copy c.in_ok-copy.ensures _ _ c.book.ensures.nodes c.book.ensures.log c.in_ok-nodes.nodes.items c.as_slice.result.now c.as_slice.ensures.value c.in_ok-nodes.ensures
+pub ready_there-requires-clause-before : goal.ready_there-requires-clause-before
+ready_there-requires-clause-before g c = c.as_slice-2.ensures.value ∙ c.in_ok-before.ensures.before
 
-pub send_all-requires-clause-may : goal.send_all-requires-clause-may
-send_all-requires-clause-may g c = may_send_all g.D.Dir.cells c.args.cluster.now c.cluster.inside.ledger c.cluster.inside.tasks c.cluster.inside.places.items c.args.p c.args.seg c.args.merged
-    c.cluster.view_is c.requires.running c.cluster.invariant c.requires.node c.requires.primary c.requires.unwritten c.requires.merged
-    c.in_ok-state.state c.ready_in.new.places.items c.in_ok-state.ensures c.in_ok-copy.copy c.in_ok-copy.ensures _ _ c.book.ensures.nodes c.book.ensures.log c.in_ok-nodes.nodes.items c.as_slice.result.now c.as_slice.ensures.value c.in_ok-nodes.ensures
+pub ready_there-requires-clause-shown : goal.ready_there-requires-clause-shown
+ready_there-requires-clause-shown g c =
+    all_is g.D.Dir.cells c.cluster.inside.ledger c.met_before.new.ledger c.cluster.inside.tasks c.cluster.inside.places.items c.met_before.ensures.log c.met_before.ensures.nodes c.met_before.ensures.cut (all_at c.cluster.view_is c.requires.running c.cluster.invariant)
 
-pub send_all-requires-clause-written : goal.send_all-requires-clause-written
-send_all-requires-clause-written g c = written_at g.D.Dir.cells c.args.cluster.now c.cluster.inside.ledger c.cluster.inside.tasks c.cluster.inside.places.items c.args.p c.args.seg c.args.merged
-    c.cluster.view_is c.requires.running c.cluster.invariant c.requires.node c.requires.primary c.requires.unwritten c.requires.merged
-    c.in_ok-state.state c.ready_in.new.places.items c.in_ok-state.ensures c.in_ok-copy.copy c.in_ok-copy.ensures _ _ c.book.ensures.nodes c.book.ensures.log c.in_ok-nodes.nodes.items c.as_slice.result.now c.as_slice.ensures.value c.in_ok-nodes.ensures
-    c.write.new.self c.write.ensures.rows c.write.ensures.posted c.write.ensures.counts
+pub ready_there-requires-clause-node : goal.ready_there-requires-clause-node
+ready_there-requires-clause-node g c = asked_size (λ (k : ℕ). IsNode k c.args.p.0) c.cluster.view_is c.met_before.ensures.nodes c.requires.node
 
-pub post-requires : goal.post-requires
-post-requires g c = has_spread g.D.Dir.cells c.args.cluster.now c.cluster.inside.ledger c.cluster.inside.tasks c.cluster.inside.places.items c.args.p c.args.seg c.args.merged
-    c.cluster.view_is c.requires.running c.cluster.invariant c.requires.node c.requires.primary c.requires.unwritten c.requires.merged
-    c.in_ok-state.state c.ready_in.new.places.items c.in_ok-state.ensures c.in_ok-copy.copy c.in_ok-copy.ensures _ _ c.book.ensures.nodes c.book.ensures.log c.in_ok-nodes.nodes.items c.as_slice.result.now c.as_slice.ensures.value c.in_ok-nodes.ensures
-    c.write.new.self c.write.ensures.rows c.write.ensures.posted c.write.ensures.counts c.in_ok-sent.sent.items c.send_all.new.tasks c.send_all.new.places.items c.in_ok-sent.ensures
+pub ready_there-requires-clause-primary : goal.ready_there-requires-clause-primary
+ready_there-requires-clause-primary g c = asked_of (λ (l : Log). primary_of (printed l) ≡ Some c.args.p) c.cluster.view_is c.met_before.ensures.log c.requires.primary
 
-pub note_begun-requires : goal.note_begun-requires
-note_begun-requires g c = record {
-  room = let many = as_many g.D.Dir.cells c.args.cluster.now c.cluster.inside.ledger c.cluster.inside.tasks c.cluster.inside.places.items c.args.p c.args.seg c.args.merged
-      c.cluster.view_is c.requires.running c.cluster.invariant c.requires.node c.requires.primary c.requires.unwritten c.requires.merged
-      c.in_ok-state.state c.ready_in.new.places.items c.in_ok-state.ensures c.in_ok-copy.copy c.in_ok-copy.ensures _ _ c.book.ensures.nodes c.book.ensures.log c.in_ok-nodes.nodes.items c.as_slice.result.now c.as_slice.ensures.value c.in_ok-nodes.ensures
-      c.write.new.self c.write.ensures.rows c.write.ensures.posted c.write.ensures.counts c.in_ok-sent.sent.items c.send_all.new.tasks c.send_all.new.places.items c.in_ok-sent.ensures in
-      let listed : length c.as_slice-2.result.now ≡ length c.in_ok-sent.sent.items = ap length c.as_slice-2.ensures.value in
-      let slice : length c.as_slice.result.now ≡ length c.in_ok-nodes.nodes.items = ap length c.as_slice.ensures.value in
-      omega (arith, many, listed, slice, c.in_ok-reserve.ensures.room);
-}
+pub ready_there-requires-clause-unwritten : goal.ready_there-requires-clause-unwritten
+ready_there-requires-clause-unwritten g c = ap (λ (x : Run). is_unwritten (open_merge c.args.seg.0 x.rest.tasks.rows)) c.cluster.view_is ∙ c.requires.unwritten
+
+pub ready_there-requires-clause-merged : goal.ready_there-requires-clause-merged
+ready_there-requires-clause-merged g c = asked_of (λ (l : Log). IsMergedOut l c.args.seg c.args.merged) c.cluster.view_is c.met_before.ensures.log c.requires.merged
+
+pub ready_there-requires-clause-replicas : goal.ready_there-requires-clause-replicas
+ready_there-requires-clause-replicas g c =
+    subst (λ (ns : List NodeNo). AreReplicas c.met_before.new.ledger.nodes (printed c.met_before.new.ledger.log) ns) (sym c.as_slice.ensures.value)
+    (subst (λ (z : ℕ × Log). AreReplicas z.0 (printed z.1) c.in_ok-nodes.nodes.items) (λ i. ((c.book.ensures.nodes ∙ sym c.met_before.ensures.nodes) i, (c.book.ensures.log ∙ sym c.met_before.ensures.log) i)) c.in_ok-nodes.ensures)
 
 pub invariant_of-cluster-2 : goal.invariant_of-cluster-2
-invariant_of-cluster-2 g c = λ running. ready_all g.D.Dir.cells c.args.cluster.now c.cluster.inside.ledger c.cluster.inside.tasks c.cluster.inside.places.items c.args.p c.args.seg c.args.merged
-    c.cluster.view_is c.requires.running c.cluster.invariant c.requires.node c.requires.primary c.requires.unwritten c.requires.merged
-    c.in_ok-state.state c.ready_in.new.places.items c.in_ok-state.ensures c.in_ok-copy.copy c.in_ok-copy.ensures _ _ c.book.ensures.nodes c.book.ensures.log c.in_ok-nodes.nodes.items c.as_slice.result.now c.as_slice.ensures.value c.in_ok-nodes.ensures
-    c.write.new.self c.write.ensures.rows c.write.ensures.posted c.write.ensures.counts c.in_ok-sent.sent.items c.send_all.new.tasks c.send_all.new.places.items c.in_ok-sent.ensures
-    c.args.line c.args.by c.reserve.new.self c.note_begun.new.ledger c.keep.new.self c.in_ok-reserve.ensures.log c.in_ok-reserve.ensures.nodes c.in_ok-reserve.ensures.cut (c.note_begun.ensures.log ∙ ap (λ (l : List Sent). begun_log c.args.line l c.reserve.new.self.log) c.as_slice-2.ensures.value) c.note_begun.ensures.nodes c.note_begun.ensures.cut
-    c.keep.ensures.log c.keep.ensures.nodes c.keep.ensures.cut c.post.new.self c.count.new.self c.in_ok-post.ensures.rows c.in_ok-post.ensures.posted c.post.ensures.counts c.count.ensures.rows c.count.ensures.posted c.in_ok-count.ensures.counts c.files_last.ensures
+invariant_of-cluster-2 g c = λ running. c.in_ok-ready_there.ensures.shown
 
 pub returns-clause-ok : goal.returns-clause-ok
-returns-clause-ok g c = writes_merge g.D.Dir.cells c.args.cluster.now c.cluster.inside.ledger c.cluster.inside.tasks c.cluster.inside.places.items c.args.p c.args.seg c.args.merged
-    c.cluster.view_is c.requires.running c.cluster.invariant c.requires.node c.requires.primary c.requires.unwritten c.requires.merged
-    c.in_ok-state.state c.ready_in.new.places.items c.in_ok-state.ensures c.in_ok-copy.copy c.in_ok-copy.ensures _ _ c.book.ensures.nodes c.book.ensures.log c.in_ok-nodes.nodes.items c.as_slice.result.now c.as_slice.ensures.value c.in_ok-nodes.ensures
-    c.write.new.self c.write.ensures.rows c.write.ensures.posted c.write.ensures.counts c.in_ok-sent.sent.items c.send_all.new.tasks c.send_all.new.places.items c.in_ok-sent.ensures
-    c.args.line c.args.by c.reserve.new.self c.note_begun.new.ledger c.keep.new.self c.in_ok-reserve.ensures.log c.in_ok-reserve.ensures.nodes c.in_ok-reserve.ensures.cut (c.note_begun.ensures.log ∙ ap (λ (l : List Sent). begun_log c.args.line l c.reserve.new.self.log) c.as_slice-2.ensures.value) c.note_begun.ensures.nodes c.note_begun.ensures.cut
-    c.keep.ensures.log c.keep.ensures.nodes c.keep.ensures.cut c.post.new.self c.count.new.self c.in_ok-post.ensures.rows c.in_ok-post.ensures.posted c.post.ensures.counts c.count.ensures.rows c.count.ensures.posted c.in_ok-count.ensures.counts
-
-pub returns-in_err-sent-clause-err : goal.returns-in_err-sent-clause-err
-returns-in_err-sent-clause-err g c = ended_before c.from_residual-in_err-sent.result c.args.cluster.now c.cluster.inside.ledger c.reserve.new.self _ c.cluster.view_is c.in_ok-reserve.ensures.log c.in_ok-reserve.ensures.nodes
-
-pub returns-in_err-post-clause-err : goal.returns-in_err-post-clause-err
-returns-in_err-post-clause-err g c = ended_before c.from_residual-in_err-post.result c.args.cluster.now c.cluster.inside.ledger c.reserve.new.self _ c.cluster.view_is c.in_ok-reserve.ensures.log c.in_ok-reserve.ensures.nodes
-
-pub returns-in_err-count-clause-err : goal.returns-in_err-count-clause-err
-returns-in_err-count-clause-err g c = ended_before c.from_residual-in_err-count.result c.args.cluster.now c.cluster.inside.ledger c.reserve.new.self _ c.cluster.view_is c.in_ok-reserve.ensures.log c.in_ok-reserve.ensures.nodes
+returns-clause-ok g c =
+    built_so g.D.FaultDir.planned c.args.cluster.now c.cluster.inside.ledger c.met_before.new.ledger c.cluster.inside.tasks c.cluster.inside.places.items c.ready_there.new.places.items c.cluster.view_is c.met_before.ensures.log c.met_before.ensures.nodes c.met_before.ensures.cut
+    refl refl refl _ refl c.ready_there.new.ledger c.ready_there.new.tasks refl refl c.in-Some.at c.args.line c.args.seg c.args.by (sym c.merge_on.ensures ∙ c.in-Some.is) c.args.p c.requires.primary _ c.in_ok-ready_there.ensures.ok

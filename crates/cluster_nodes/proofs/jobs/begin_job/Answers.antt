@@ -1,4 +1,4 @@
-use Rattle.std.proofs.Common.{◌≡◌, true, ap, arith, subst, sym, Option}
+use Rattle.std.proofs.Common.{◌≡◌, true, ap, arith, refl, subst, sym, Option}
 use Rattle.std.specs.Prelude.{IfSome}
 use Rattle.std.specs.Option.{option_map}
 use Rattle.index_primary.specs.declared.states.Out.{Out}
@@ -20,6 +20,13 @@ start_job-requires-clause-few g c =
     let now = c.jobs-begun.ensures in
     let noted = ap (λ (r : ReplicaParts _). r.jobs) c.new_point.ensures.others in
     omega (arith, low, now, noted)
+
+pub returns-in-Err : goal.returns-in-Err
+returns-in-Err g c = record {
+  primary = alters_by g.D.Dir.cells c.args.primary.now c.take_state.new.self c.take_state.ensures.stays c.take_state.ensures.no_new (none_by c.take_state.ensures.cells) c.take_state.ensures.others (λ w. c.take_state.ensures.whole);
+  states = c.in-Err.ensures.err.0;
+  replica = refl;
+}
 
 pub returns : goal.returns
 returns g c = begins g.D.Dir.cells c.args.primary.now c.take_state.new.self c.give_back.new.primary c.args.replica.now c.new_point.new.self c.start_job.new.self c.in-Ok.state _ _ _

@@ -1,8 +1,8 @@
-use Rattle.std.proofs.Common.{subst}
+use Rattle.std.proofs.Common.{◌≡◌, subst}
 use Rattle.std.specs.Prelude.{OnOk}
 use Rattle.disk_model.specs.Disk.{HasCrashed}
-use Rattle.cluster_nodes.specs.Places.{dir_of}
-use Rattle.cluster_nodes.proofs.CrashedPlaces.{slot_left, there_left, crashed_in}
+use Rattle.disk_model.specs.Faults.{ended}
+use Rattle.cluster_nodes.proofs.CrashedPlaces.{slot_left, there_left, crashed_in, ended_in}
 use Rattle.cluster_nodes.proofs.lives.crash_in.Goals as goal
 
 pub take-node-requires-clause-slot : goal.take-node-requires-clause-slot
@@ -11,7 +11,12 @@ take-node-requires-clause-slot g c = slot_left g.D.Dir.cells c.args.primary c.ar
 pub take-node-requires-clause-there : goal.take-node-requires-clause-there
 take-node-requires-clause-there g c = there_left g.D.Dir.cells c.args.primary c.args.places.now.items c.end_with.new.places.items c.args.n.0 c.in_ok-end_with.ensures c.requires.there
 
-pub returns : goal.returns
-returns g c = crashed_in g.D.Dir.cells c.crash-crashed.result c.args.primary c.args.places.now.items c.end_with.new.places.items c.take-node.new.places.items c.put.new.places.items c.args.n.0 c.take-node.result c.crash-crashed.new.self c.new-held.result
+pub returns-clause-crashes : goal.returns-clause-crashes
+returns-clause-crashes g c = crashed_in g.D.Dir.cells c.crash-crashed.result c.args.primary c.args.places.now.items c.end_with.new.places.items c.take-node.new.places.items c.put.new.places.items c.args.n.0 c.take-node.result c.crash-crashed.new.self c.new-held.result
     c.in_ok-end_with.ensures c.take-node.ensures.place c.new-held.ensures.items c.take-node.ensures.count c.take-node.ensures.places c.put.ensures.count c.put.ensures.places
     (subst (λ d. OnOk c.crash-crashed.result (HasCrashed (g.D.Dir.cells d) (g.D.Dir.cells c.crash-crashed.new.self))) c.dir_in-dir.ensures c.crash-crashed.ensures.image)
+
+pub returns-clause-plans : goal.returns-clause-plans
+returns-clause-plans g c = ended_in g.D.Dir.cells g.D.FaultDir.planned c.crash-crashed.result c.args.primary c.args.places.now.items c.end_with.new.places.items c.take-node.new.places.items c.put.new.places.items c.args.n.0 c.take-node.result c.crash-crashed.new.self c.new-held.result
+    c.in_ok-end_with.ensures c.take-node.ensures.place c.put.ensures.places
+    (subst (λ d. OnOk c.crash-crashed.result (g.D.FaultDir.planned c.crash-crashed.new.self ≡ ended (g.D.FaultDir.planned d))) c.dir_in-dir.ensures c.crash-crashed.ensures.plans)

@@ -12,7 +12,9 @@ use Rattle.cluster_state.proofs.MergingPaths.{third_at, put_shown}
 use Rattle.cluster_state.proofs.MergingStill.{primary_keeps}
 use Rattle.cluster_nodes.specs.declared.nodes.Node.TheVariants.{Primary}
 use Rattle.index_primary.specs.declared.parts.PrimaryParts.{PrimaryParts}
+use Rattle.cluster_state.specs.PlansIn.{place_plans}
 use Rattle.cluster_state.proofs.RestKept.{put_keeps, primary_tells}
+use Rattle.cluster_state.proofs.Behind.{put_each}
 use Rattle.cluster_publish.proofs.writes.accept_at.Goals as goal
 
 pub take-requires-clause-slot : goal.take-requires-clause-slot
@@ -73,9 +75,17 @@ returns-clause-ok g c =
 
 pub returns-clause-rest : goal.returns-clause-rest
 returns-clause-rest g c =
-    put_keeps g.D.Dir.cells c.args.cluster.now c.cluster.inside.ledger c.reserve.new.self c.show.new.self c.cluster.inside.tasks _ c.take.new.places.items _ c.args.p.0
+    put_keeps g.D.Dir.cells c.args.cluster.now c.cluster.inside.ledger c.reserve.new.self c.show.new.self c.cluster.inside.tasks _ _ c.take.new.places.items _ c.args.p.0
     (record { node = Primary c.accept-place.new.self; held = c.primary_in-primary.result.1 }) (record { node = Primary c.primary_in-primary.result.0; held = c.primary_in-primary.result.1 })
     c.cluster.view_is c.in_ok-reserve.ensures.cut c.show.ensures.cut (record { count = c.take.ensures.count; taken = c.take.ensures.places; again = c.put.ensures.count; there = c.put.ensures.places })
     (c.take.ensures.place ∙ ap Some c.primary_in-primary.ensures)
     (primary_tells c.primary_in-primary.result.0 c.accept-place.new.self c.primary_in-primary.result.1 (ap (λ (z : PrimaryParts _). z.commits) c.in_ok-place.ensures.waits)
     (ap (λ (z : PrimaryParts _). z.infos.segs) c.in_ok-place.ensures.waits) (ap (λ (z : PrimaryParts _). z.merges) c.in_ok-place.ensures.waits))
+
+pub returns-clause-plans : goal.returns-clause-plans
+returns-clause-plans g c =
+    put_each g.D.Dir.cells (place_plans g.D.FaultDir.planned) _ c.take.new.places.items _ c.args.p.0
+    (record { node = Primary c.accept-place.new.self; held = c.primary_in-primary.result.1 }) (record { node = Primary c.primary_in-primary.result.0; held = c.primary_in-primary.result.1 })
+    (record { count = c.take.ensures.count; taken = c.take.ensures.places; again = c.put.ensures.count; there = c.put.ensures.places })
+    (c.take.ensures.place ∙ ap Some c.primary_in-primary.ensures) (ap (λ (z : PrimaryParts _). g.D.FaultDir.planned z.dir) c.in_ok-place.ensures.waits)
+    ∙ ap (λ (r : Run). r.rest.plans) c.cluster.view_is

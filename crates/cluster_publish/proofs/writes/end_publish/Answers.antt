@@ -16,7 +16,8 @@ use Rattle.cluster_state.specs.Met.{met_in, with_met, ArePlanned, has_risen}
 use Rattle.cluster_state.specs.Writes.{IsFlushed}
 use Rattle.cluster_publish.proofs.MetWords.{met_flight, met_primary, met_flushed}
 use Rattle.cluster_publish.proofs.GivenUp.{given_up_path, given_up_files, given_up_merges}
-use Rattle.cluster_publish.proofs.MetStands.{behind, run_behind, counted, stands_behind, ends_behind, as_many, left_by, on_any}
+use Rattle.cluster_publish.proofs.MetStands.{ends_behind, left_by}
+use Rattle.cluster_state.proofs.MetStands.{behind, run_behind, counted, stands_behind, as_many, on_any}
 use Rattle.cluster_publish.proofs.writes.end_publish.Goals as goal
 
 pub take-requires-clause-slot : goal.take-requires-clause-slot

@@ -144,7 +144,7 @@ is_fresh-requires g c = asked_of (λ (l : Log). entries_of_line c.args.at (print
 pub returns-in-Err-clause-rest : goal.returns-in-Err-clause-rest
 returns-in-Err-clause-rest g c =
     let same = on_err _ _ c.in-Err.is c.publish_start-started.ensures.err in
-    put_keeps g.D.Dir.cells c.args.cluster.now c.cluster.inside.ledger c.reserve.new.self c.reserve.new.self c.cluster.inside.tasks _ c.take.new.places.items _ c.args.p.0
+    put_keeps g.D.Dir.cells c.args.cluster.now c.cluster.inside.ledger c.reserve.new.self c.reserve.new.self c.cluster.inside.tasks _ _ c.take.new.places.items _ c.args.p.0
     (record { node = Primary c.publish_start-started.new.self; held = c.primary_in-primary.result.1 }) (record { node = Primary c.primary_in-primary.result.0; held = c.primary_in-primary.result.1 })
     c.cluster.view_is c.in_ok-reserve.ensures.cut refl (record { count = c.take.ensures.count; taken = c.take.ensures.places; again = c.put.ensures.count; there = c.put.ensures.places })
     (c.take.ensures.place ∙ ap Some c.primary_in-primary.ensures)
@@ -153,7 +153,7 @@ returns-in-Err-clause-rest g c =
 pub returns-clause-rest : goal.returns-clause-rest
 returns-clause-rest g c =
     let task = asked_task g.D.Dir.cells c.primary_in-primary.result.0 c.publish_start-started.new.self c.in-Ok-Some.field-0 c.in-Ok-Some.task c.in-Ok-Some.field-0-is c.in-Ok-Some.ensures.task c.in-Ok-Some.ensures.next in
-    put_keeps g.D.Dir.cells c.args.cluster.now c.cluster.inside.ledger c.reserve.new.self c.keep.new.self c.cluster.inside.tasks _ c.take.new.places.items _ c.args.p.0
+    put_keeps g.D.Dir.cells c.args.cluster.now c.cluster.inside.ledger c.reserve.new.self c.keep.new.self c.cluster.inside.tasks _ _ c.take.new.places.items _ c.args.p.0
     (record { node = Primary c.publish_start-started.new.self; held = c.primary_in-primary.result.1 }) (record { node = Primary c.primary_in-primary.result.0; held = c.primary_in-primary.result.1 })
     c.cluster.view_is c.in_ok-reserve.ensures.cut (c.keep.ensures.cut ∙ c.show_publishing.ensures.cut) (record { count = c.take.ensures.count; taken = c.take.ensures.places; again = c.put.ensures.count; there = c.put.ensures.places })
     (c.take.ensures.place ∙ ap Some c.primary_in-primary.ensures)

@@ -1,47 +1,110 @@
-use Rattle.std.proofs.Common.{◌∙◌, ◌+◌, ap, refl, arith, ◌≡◌, [], ◌∷◌, ℕ}
+use Rattle.std.proofs.Common.{◌≡◌, ◌≤◌, ◌∙◌, ◌+◌, ◌∷◌, [], ℕ, None, false, List, Option, length, map, ap, sym, refl, subst, arith, true≢false}
 use Rattle.history_rules.specs.declared.entry.Event.TheVariants.{Promoted}
-use Rattle.history_rules.specs.Nodes.{generation_of}
-use Rattle.history_book.specs.Log.{printed, Log, shown}
-use Rattle.cluster_state.specs.Run.{Run}
-use Rattle.cluster_state.proofs.Frames.{rule_at}
-use Rattle.cluster_recovery.proofs.PromotedNodes.{may_promote, can_path, promote_path}
-use Rattle.cluster_state.proofs.Ledgers.{asked_of, fresh_of, legal_of, told_of, vacant_of}
+use Rattle.history_rules.specs.Nodes.{IsNode, generation_of, primary_of}
 use Rattle.history_rules.specs.Lines.{entries_of_line}
-use Rattle.cluster_state.proofs.Turning.{log_is, nodes_is}
-use Rattle.cluster_state.proofs.MergingPaths.{two_parts, three_parts, third_at}
+use Rattle.history_book.specs.Log.{printed, Log, shown}
+use Rattle.cluster_nodes.specs.declared.nodes.NodePlace.{NodePlace}
+use Rattle.cluster_state.specs.Run.{Run}
+use Rattle.cluster_state.specs.Met.{met_in, with_met, ArePlanned}
+use Rattle.cluster_state.proofs.Frames.{rule_at}
+use Rattle.cluster_state.proofs.Ledgers.{asked_of, asked_size, legal_of, told_of, vacant_of}
+use Rattle.cluster_state.proofs.MergingPaths.{two_parts, three_parts}
+use Rattle.cluster_state.proofs.MetStands.{behind, run_behind, counted, stands_behind, now_behind, as_many, on_any}
+use Rattle.cluster_recovery.proofs.MetLives.{begun_at, unanswered_at, met_unbegun, met_vacant, met_idle, met_promotion}
+use Rattle.cluster_recovery.proofs.PromotedNodes.{may_promote, can_path, promote_path}
 use Rattle.cluster_recovery.proofs.PromotedMerges.{promoted_stands}
 use Rattle.cluster_recovery.proofs.promoting.promote_node.Goals as goal
+
+pub is_fresh-requires : goal.is_fresh-requires
+is_fresh-requires g c = asked_of (λ (l : Log). entries_of_line c.args.at (printed l) ≡ []) c.cluster.view_is c.book-book.ensures.log c.requires.fresh
 
 pub promote_in-requires : goal.promote_in-requires
 promote_in-requires g c = can_path g.D.Dir.cells c.args.cluster.now _ c.cluster.inside.ledger _ c.args.n _ c.args.forced c.generation-last.result c.cluster.view_is c.requires.running (two_parts c.cluster.invariant) (legal_of c.book-book.ensures.nodes c.book-book.ensures.log c.is_legal.ensures.legal)
     c.requires.node c.requires.up c.requires.vacant ((told_of c.book-book.ensures.log generation_of c.generation-last.ensures) ∙ ap (λ (x : Run). generation_of (printed x.log)) c.cluster.view_is) refl (let low = c.if-last.false in omega (arith, low)) c.requires.low c.requires.high
 
-pub show_promoted-requires-clause-rule : goal.show_promoted-requires-clause-rule
-show_promoted-requires-clause-rule g c = rule_at c.args.cluster.now _ c.cluster.inside.ledger c.reserve.new.self c.args.at
-    (Promoted c.args.n (record { 0 = c.generation-last.result + 1 }) c.args.forced (record { 0 = c.args.forced.0 + 1 })) c.cluster.view_is c.in_ok-reserve.ensures.log c.in_ok-reserve.ensures.nodes
-    (may_promote g.D.Dir.cells c.args.cluster.now c.args.n _ c.args.forced _ c.generation-last.result c.args.at c.requires.node c.requires.up c.requires.vacant c.requires.low c.requires.high
-    ((told_of c.book-book.ensures.log generation_of c.generation-last.ensures) ∙ ap (λ (x : Run). generation_of (printed x.log)) c.cluster.view_is) refl refl)
+pub are_planned-requires-clause-count : goal.are_planned-requires-clause-count
+are_planned-requires-clause-count g c = ap (λ (xs : List (ℕ × ℕ)). length xs) c.as_slice-2.ensures.value ∙ ((as_many (met_in g.D.FaultDir.planned) c.in_ok-before.before.items c.as_slice.result.now c.cluster.inside.places.items c.reserve.new.self.nodes c.in_ok-before.ensures c.as_slice.ensures.value (counted g.D.Dir.cells c.args.cluster.now _ c.cluster.inside.ledger c.reserve.new.self c.cluster.inside.places.items c.cluster.inside.tasks c.cluster.view_is c.requires.running c.cluster.invariant c.in_ok-reserve.ensures.nodes)) ∙ sym c.book.ensures.nodes)
+
+pub are_planned-requires-clause-places : goal.are_planned-requires-clause-places
+are_planned-requires-clause-places g c = (c.in_ok-promote_in.ensures.moves.count ∙ (counted g.D.Dir.cells c.args.cluster.now _ c.cluster.inside.ledger c.reserve.new.self c.cluster.inside.places.items c.cluster.inside.tasks c.cluster.view_is c.requires.running c.cluster.invariant c.in_ok-reserve.ensures.nodes)) ∙ sym c.book.ensures.nodes
+
+pub note_promoted-requires-clause-room : goal.note_promoted-requires-clause-room
+note_promoted-requires-clause-room g c = let room = c.in_ok-reserve.ensures.room in let many = c.len-2.ensures in let same = c.as_slice-3.ensures.len in omega (arith, room, many, same)
+
+pub note_promoted-requires-clause-count : goal.note_promoted-requires-clause-count
+note_promoted-requires-clause-count g c = ap (λ (xs : List (ℕ × ℕ)). length xs) c.as_slice-3.ensures.value ∙ (as_many (met_in g.D.FaultDir.planned) c.in_ok-before.before.items c.as_slice.result.now c.cluster.inside.places.items c.reserve.new.self.nodes c.in_ok-before.ensures c.as_slice.ensures.value (counted g.D.Dir.cells c.args.cluster.now _ c.cluster.inside.ledger c.reserve.new.self c.cluster.inside.places.items c.cluster.inside.tasks c.cluster.view_is c.requires.running c.cluster.invariant c.in_ok-reserve.ensures.nodes))
+
+pub note_promoted-requires-clause-places : goal.note_promoted-requires-clause-places
+note_promoted-requires-clause-places g c = (c.in_ok-promote_in.ensures.moves.count ∙ (counted g.D.Dir.cells c.args.cluster.now _ c.cluster.inside.ledger c.reserve.new.self c.cluster.inside.places.items c.cluster.inside.tasks c.cluster.view_is c.requires.running c.cluster.invariant c.in_ok-reserve.ensures.nodes))
+
+pub note_promoted-requires-clause-few : goal.note_promoted-requires-clause-few
+note_promoted-requires-clause-few g c = subst (λ (xs : List (ℕ × ℕ)). length xs ≤ 255) (c.as_slice-2.ensures.value ∙ sym c.as_slice-3.ensures.value) (c.if-not-are_planned.ensures.few refl)
+
+pub note_promoted-requires-clause-planned : goal.note_promoted-requires-clause-planned
+note_promoted-requires-clause-planned g c = subst (λ (z : List (ℕ × ℕ) × Log). ArePlanned 1 z.0 (map (met_in g.D.FaultDir.planned) c.promote_in.new.places.items) (printed z.1)) (λ i. ((c.as_slice-2.ensures.value ∙ sym c.as_slice-3.ensures.value) i, c.book.ensures.log i)) (c.if-not-are_planned.ensures.planned refl)
+
+pub note_promoted-requires-clause-unanswered : goal.note_promoted-requires-clause-unanswered
+note_promoted-requires-clause-unanswered g c = unanswered_at c.args.at c.in_ok-reserve.ensures.log c.book-book.ensures.log c.is_fresh.ensures
+
+pub note_promoted-requires-clause-rule : goal.note_promoted-requires-clause-rule
+note_promoted-requires-clause-rule g c = (rule_at c.args.cluster.now _ c.cluster.inside.ledger c.reserve.new.self c.args.at (Promoted c.args.n (record { 0 = c.generation-last.result + 1 }) c.args.forced (record { 0 = c.args.forced.0 + 1 })) c.cluster.view_is c.in_ok-reserve.ensures.log c.in_ok-reserve.ensures.nodes (may_promote g.D.Dir.cells c.args.cluster.now c.args.n _ c.args.forced _ c.generation-last.result c.args.at c.requires.node c.requires.up c.requires.vacant c.requires.low c.requires.high ((told_of c.book-book.ensures.log generation_of c.generation-last.ensures) ∙ ap (λ (x : Run). generation_of (printed x.log)) c.cluster.view_is) refl refl))
 
 pub invariant_of-cluster-2 : goal.invariant_of-cluster-2
 invariant_of-cluster-2 g c = λ running.
-    let both = promote_path g.D.Dir.cells c.args.cluster.now _ c.cluster.inside.ledger c.reserve.new.self c.show_promoted.new.self _ _ c.args.at c.args.n _ c.args.forced _
-    c.cluster.view_is c.requires.running (two_parts c.cluster.invariant) c.in_ok-reserve.ensures.log c.in_ok-reserve.ensures.nodes c.show_promoted.ensures.log c.show_promoted.ensures.nodes c.show_promoted.ensures.legal c.show_promoted.ensures.turns
-    (vacant_of c.book-book.ensures.log c.is_idle.ensures.vacant) (fresh_of c.book-book.ensures.log c.is_fresh.ensures)
-    (may_promote g.D.Dir.cells c.args.cluster.now c.args.n _ c.args.forced _ c.generation-last.result c.args.at c.requires.node c.requires.up c.requires.vacant c.requires.low c.requires.high
-    ((told_of c.book-book.ensures.log generation_of c.generation-last.ensures) ∙ ap (λ (x : Run). generation_of (printed x.log)) c.cluster.view_is) refl refl)
-    c.in_ok-promote_in.ensures in
-    three_parts both (promoted_stands g.D.Dir.cells _ c.args.cluster.now _ c.cluster.inside.ledger c.reserve.new.self c.show_promoted.new.self _ _ c.args.n c.args.at (record { 0 = c.generation-last.result + 1 }) c.args.forced (record { 0 = c.args.forced.0 + 1 }) c.cluster.view_is c.requires.running
-    (λ e. (c.cluster.invariant e).0) c.in_ok-reserve.ensures.log c.in_ok-reserve.ensures.nodes c.in_ok-reserve.ensures.cut c.show_promoted.ensures.log c.show_promoted.ensures.nodes c.show_promoted.ensures.cut c.requires.node c.requires.vacant c.in_ok-promote_in.ensures both.1
-    (third_at c.cluster.view_is c.requires.running c.cluster.invariant))
-
-pub is_fresh-requires : goal.is_fresh-requires
-is_fresh-requires g c = asked_of (λ (l : Log). entries_of_line c.args.at (printed l) ≡ []) c.cluster.view_is c.book-book.ensures.log c.requires.fresh
+    let st = (stands_behind g.D.Dir.cells c.args.cluster.now _ c.cluster.inside.ledger c.reserve.new.self c.cluster.inside.places.items c.cluster.inside.tasks c.cluster.view_is c.requires.running c.cluster.invariant c.args.at c.as_slice-3.result.now (map (met_in g.D.FaultDir.planned) c.promote_in.new.places.items) c.in_ok-reserve.ensures.log c.in_ok-reserve.ensures.nodes c.in_ok-reserve.ensures.cut) in
+    let begun = met_unbegun c.args.at c.as_slice-3.result.now (map (met_in g.D.FaultDir.planned) c.promote_in.new.places.items) c.reserve.new.self.log (begun_at c.args.at c.in_ok-reserve.ensures.log c.book-book.ensures.log c.is_fresh.ensures) in
+    let node = asked_size (λ (k : ℕ). IsNode k c.args.n.0) c.cluster.view_is c.in_ok-reserve.ensures.nodes c.requires.node in
+    let vacant = met_vacant c.args.at c.as_slice-3.result.now (map (met_in g.D.FaultDir.planned) c.promote_in.new.places.items) c.reserve.new.self.log (asked_of (λ (l : Log). primary_of (printed l) ≡ None) c.cluster.view_is c.in_ok-reserve.ensures.log c.requires.vacant) in
+    let idle = met_idle c.args.at c.as_slice-3.result.now (map (met_in g.D.FaultDir.planned) c.promote_in.new.places.items) c.reserve.new.self.log (vacant_of (c.book-book.ensures.log ∙ sym c.in_ok-reserve.ensures.log) c.is_idle.ensures.vacant) in
+    let rule = met_promotion c.args.at c.as_slice-3.result.now (map (met_in g.D.FaultDir.planned) c.promote_in.new.places.items) c.reserve.new.self.log c.reserve.new.self.nodes c.reserve.new.self.nodes (with_met false c.args.at 1 c.as_slice-3.result.now (map (met_in g.D.FaultDir.planned) c.promote_in.new.places.items) c.reserve.new.self.log) c.args.n (record { 0 = c.generation-last.result + 1 }) c.args.forced (record { 0 = c.args.forced.0 + 1 }) refl refl (rule_at c.args.cluster.now _ c.cluster.inside.ledger c.reserve.new.self c.args.at (Promoted c.args.n (record { 0 = c.generation-last.result + 1 }) c.args.forced (record { 0 = c.args.forced.0 + 1 })) c.cluster.view_is c.in_ok-reserve.ensures.log c.in_ok-reserve.ensures.nodes (may_promote g.D.Dir.cells c.args.cluster.now c.args.n _ c.args.forced _ c.generation-last.result c.args.at c.requires.node c.requires.up c.requires.vacant c.requires.low c.requires.high ((told_of c.book-book.ensures.log generation_of c.generation-last.ensures) ∙ ap (λ (x : Run). generation_of (printed x.log)) c.cluster.view_is) refl refl)) in
+    let both = promote_path g.D.Dir.cells (run_behind c.args.at c.as_slice-3.result.now (map (met_in g.D.FaultDir.planned) c.promote_in.new.places.items) c.reserve.new.self c.args.cluster.now) c.args.cluster.now.ended (behind c.args.at c.as_slice-3.result.now (map (met_in g.D.FaultDir.planned) c.promote_in.new.places.items) c.reserve.new.self) (behind c.args.at c.as_slice-3.result.now (map (met_in g.D.FaultDir.planned) c.promote_in.new.places.items) c.reserve.new.self) c.note_promoted.new.ledger c.cluster.inside.places.items c.promote_in.new.places.items c.args.at c.args.n (record { 0 = c.generation-last.result + 1 }) c.args.forced (record { 0 = c.args.forced.0 + 1 })
+    refl c.requires.running (λ e. (st.0, st.1)) refl refl c.note_promoted.ensures.log c.note_promoted.ensures.nodes c.note_promoted.ensures.legal c.note_promoted.ensures.turns idle begun rule c.in_ok-promote_in.ensures in
+    three_parts both (promoted_stands g.D.Dir.cells c.cluster.inside.tasks (run_behind c.args.at c.as_slice-3.result.now (map (met_in g.D.FaultDir.planned) c.promote_in.new.places.items) c.reserve.new.self c.args.cluster.now) c.args.cluster.now.ended (behind c.args.at c.as_slice-3.result.now (map (met_in g.D.FaultDir.planned) c.promote_in.new.places.items) c.reserve.new.self) (behind c.args.at c.as_slice-3.result.now (map (met_in g.D.FaultDir.planned) c.promote_in.new.places.items) c.reserve.new.self) c.note_promoted.new.ledger c.cluster.inside.places.items c.promote_in.new.places.items c.args.n c.args.at (record { 0 = c.generation-last.result + 1 }) c.args.forced (record { 0 = c.args.forced.0 + 1 }) refl c.requires.running
+    (λ e. st.0) refl refl refl c.note_promoted.ensures.log c.note_promoted.ensures.nodes c.note_promoted.ensures.cut node vacant c.in_ok-promote_in.ensures both.1 st.2)
 
 pub returns-clause-ok : goal.returns-clause-ok
 returns-clause-ok g c =
-    let last = told_of c.book-book.ensures.log generation_of c.generation-last.ensures ∙ ap (λ (r : Run). generation_of (printed r.log)) c.cluster.view_is in
-    record {
-      running = refl;
-      nodes = c.show_promoted.ensures.nodes ∙ (c.in_ok-reserve.ensures.nodes ∙ nodes_is c.args.cluster.now _ c.cluster.inside.ledger c.cluster.view_is);
-      log = c.show_promoted.ensures.log ∙ λ i. shown c.args.at (Promoted c.args.n (record { 0 = last i + 1 }) c.args.forced (record { 0 = c.args.forced.0 + 1 })) ∷ (c.in_ok-reserve.ensures.log ∙ log_is c.args.cluster.now _ c.cluster.inside.ledger c.cluster.view_is) i;
-    }
+    let last = ((told_of c.book-book.ensures.log generation_of c.generation-last.ensures) ∙ ap (λ (x : Run). generation_of (printed x.log)) c.cluster.view_is) in
+    now_behind g.D.FaultDir.planned c.cluster.inside.places.items c.promote_in.new.places.items c.args.cluster.now _ c.cluster.inside.ledger c.reserve.new.self c.note_promoted.new.ledger c.args.at c.as_slice-3.result.now (map (met_in g.D.FaultDir.planned) c.promote_in.new.places.items)
+    (λ (l : Log). shown c.args.at (Promoted c.args.n (record { 0 = generation_of (printed c.args.cluster.now.log) + 1 }) c.args.forced (record { 0 = c.args.forced.0 + 1 })) ∷ l) c.cluster.view_is c.in_ok-reserve.ensures.log c.in_ok-reserve.ensures.nodes
+    (c.note_promoted.ensures.log ∙ λ i. shown c.args.at (Promoted c.args.n (record { 0 = last i + 1 }) c.args.forced (record { 0 = c.args.forced.0 + 1 })) ∷ with_met false c.args.at 1 c.as_slice-3.result.now (map (met_in g.D.FaultDir.planned) c.promote_in.new.places.items) c.reserve.new.self.log)
+    c.note_promoted.ensures.nodes (c.as_slice-3.ensures.value ∙ (c.in_ok-before.ensures ∙ ap (λ (l : List (Option (NodePlace _))). map (met_in g.D.FaultDir.planned) l) c.as_slice.ensures.value)) refl refl refl
+
+pub returns-clause-tasks : goal.returns-clause-tasks
+returns-clause-tasks g c = ap (λ (r : Run). r.rest.tasks) c.cluster.view_is
+
+pub invariant_of-cluster : goal.invariant_of-cluster
+invariant_of-cluster g c = λ ended. absurd (true≢false ended)
+
+pub invariant_of-cluster-in_err-before : goal.invariant_of-cluster-in_err-before
+invariant_of-cluster-in_err-before g c = λ ended. absurd (true≢false ended)
+
+pub invariant_of-cluster-then-len : goal.invariant_of-cluster-then-len
+invariant_of-cluster-then-len g c = λ ended. absurd (true≢false ended)
+
+pub invariant_of-cluster-in_err-reserve : goal.invariant_of-cluster-in_err-reserve
+invariant_of-cluster-in_err-reserve g c = λ ended. absurd (true≢false ended)
+
+pub invariant_of-cluster-in_err-promote_in : goal.invariant_of-cluster-in_err-promote_in
+invariant_of-cluster-in_err-promote_in g c = λ ended. absurd (true≢false ended)
+
+pub invariant_of-cluster-then-not-are_planned : goal.invariant_of-cluster-then-not-are_planned
+invariant_of-cluster-then-not-are_planned g c = λ ended. absurd (true≢false ended)
+
+pub returns-then-last-clause-err : goal.returns-then-last-clause-err
+returns-then-last-clause-err g c = record { ended = refl; nodes = ap (λ (x : Run). x.nodes) c.cluster.view_is; log = ap (λ (x : Run). x.log) c.cluster.view_is }
+
+pub returns-in_err-before-clause-err : goal.returns-in_err-before-clause-err
+returns-in_err-before-clause-err g c = on_any c.from_residual.result (record { ended = refl; nodes = ap (λ (x : Run). x.nodes) c.cluster.view_is; log = ap (λ (x : Run). x.log) c.cluster.view_is })
+
+pub returns-then-len-clause-err : goal.returns-then-len-clause-err
+returns-then-len-clause-err g c = record { ended = refl; nodes = ap (λ (x : Run). x.nodes) c.cluster.view_is; log = ap (λ (x : Run). x.log) c.cluster.view_is }
+
+pub returns-in_err-reserve-clause-err : goal.returns-in_err-reserve-clause-err
+returns-in_err-reserve-clause-err g c = on_any c.from_residual-in_err-reserve.result (record { ended = refl; nodes = c.reserve.ensures.nodes ∙ ap (λ (x : Run). x.nodes) c.cluster.view_is; log = c.reserve.ensures.log ∙ ap (λ (x : Run). x.log) c.cluster.view_is })
+
+pub returns-in_err-promote_in-clause-err : goal.returns-in_err-promote_in-clause-err
+returns-in_err-promote_in-clause-err g c = on_any c.from_residual-in_err-promote_in.result (record { ended = refl; nodes = c.in_ok-reserve.ensures.nodes ∙ ap (λ (x : Run). x.nodes) c.cluster.view_is; log = c.in_ok-reserve.ensures.log ∙ ap (λ (x : Run). x.log) c.cluster.view_is })
+
+pub returns-then-not-are_planned-clause-err : goal.returns-then-not-are_planned-clause-err
+returns-then-not-are_planned-clause-err g c = record { ended = refl; nodes = c.in_ok-reserve.ensures.nodes ∙ ap (λ (x : Run). x.nodes) c.cluster.view_is; log = c.in_ok-reserve.ensures.log ∙ ap (λ (x : Run). x.log) c.cluster.view_is }

@@ -73,6 +73,6 @@ version-requires g c = asked_size (λ (k : ℕ). IsNode k c.args.n.0) c.cluster.
 
 pub returns-clause-rest : goal.returns-clause-rest
 returns-clause-rest g c =
-    put_keeps g.D.Dir.cells c.args.cluster.now c.cluster.inside.ledger c.reserve.new.self c.show.new.self c.cluster.inside.tasks c.cluster.inside.places.items c.take-place.new.places.items c.put.new.places.items c.args.n.0 c.hold_ticket-holding.new.place c.take-place.result
+    put_keeps g.D.Dir.cells c.args.cluster.now c.cluster.inside.ledger c.reserve.new.self c.show.new.self c.cluster.inside.tasks _ c.cluster.inside.places.items c.take-place.new.places.items c.put.new.places.items c.args.n.0 c.hold_ticket-holding.new.place c.take-place.result
     c.cluster.view_is c.in_ok-reserve.ensures.cut c.show.ensures.cut (record { count = c.take-place.ensures.count; taken = c.take-place.ensures.places; again = c.put.ensures.count; there = c.put.ensures.places })
     c.take-place.ensures.place (node_tells g.D.Dir.cells c.take-place.result c.hold_ticket-holding.new.place c.in_ok-holding.ensures.keeps)

@@ -1,4 +1,8 @@
+use Rattle.std.proofs.Common.{ap, ◌∙◌, sym}
+use Rattle.history_rules.specs.Lines.{is_answered, entries_of_line}
+use Rattle.history_book.specs.Log.{Log, printed}
 use Rattle.cluster_state.proofs.Rows.{fresh_start, legal_at}
+use Rattle.cluster_search.proofs.Without.{closes_none, closes_one}
 use Rattle.cluster_search.proofs.ReadRows.{ticket_told, close_rule, close_node}
 use Rattle.cluster_state.proofs.LifeRows.{fresh_no_commit}
 use Rattle.cluster_state.proofs.Ended.{closed_key}
@@ -22,4 +26,18 @@ pub note_without-requires-clause-apart : goal.note_without-requires-clause-apart
 note_without-requires-clause-apart g c = λ m other. other
 
 pub note_without-requires-clause-ends : goal.note_without-requires-clause-ends
-note_without-requires-clause-ends g c = closed_key _ c.args.at c.in-Some.opening.node c.args.t
+note_without-requires-clause-ends g c = λ past. closed_key past c.args.at c.in-Some.opening.node c.args.t
+
+pub is_fresh-requires : goal.is_fresh-requires
+is_fresh-requires g c = ap (λ (l : Log). entries_of_line c.args.at (printed l)) c.book-in-Some-2.ensures.log ∙ c.requires.fresh
+
+pub note_without-requires-clause-unanswered : goal.note_without-requires-clause-unanswered
+note_without-requires-clause-unanswered g c = ap (λ (l : Log). is_answered c.args.at (printed l)) (sym c.book-in-Some-2.ensures.log) ∙ c.is_fresh.ensures.replied
+
+pub returns-in-None-clause-ok : goal.returns-in-None-clause-ok
+returns-in-None-clause-ok g c =
+    closes_none c.refuse.result c.args.at c.args.t c.args.state.now c.refuse.new.state _ c.book.ensures.log (c.ticket.ensures.none c.in-None.is) c.refuse.ensures.ok c.refuse.ensures.plans
+
+pub returns-in-Some-clause-ok : goal.returns-in-Some-clause-ok
+returns-in-Some-clause-ok g c =
+    closes_one c.note_without.result c.args.at c.args.t c.in-Some.opening c.args.state.now c.note_without.new.cluster (ticket_told _ _ _ _ c.ticket.result _ c.book.ensures.log c.ticket.ensures.some c.in-Some.is) c.note_without.ensures.ok

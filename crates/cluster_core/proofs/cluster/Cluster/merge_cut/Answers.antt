@@ -1,6 +1,9 @@
+use Rattle.std.proofs.Common.{subst}
 use Rattle.std.proofs.lemmas.Result.{IfOk-weaker}
+use Rattle.history_book.specs.Log.{FaultsFollow}
 use Rattle.cluster_core.proofs.MergeDoes.{cut_does, task_was}
 use Rattle.cluster_core.proofs.cluster.Cluster.merge_cut.Goals as goal
 
 pub returns-clause-does : goal.returns-clause-does
-returns-clause-does g c = IfOk-weaker c.merge_cut.result _ _ (λ x is. task_was c.args.task.now.by _ _ _ c.self.view_is (cut_does c.args.task.now.by _ _ c.args.task.now.line c.args.task.now.seg x is)) c.merge_cut.ensures.ok
+returns-clause-does g c = IfOk-weaker c.merge_cut-ended.result _ _
+    (λ x is. task_was c.args.task.now.by _ _ _ c.self.view_is (cut_does c.args.task.now.by _ _ c.args.task.now.line c.args.task.now.seg x (subst FaultsFollow c.book.ensures.log c.is_legal.ensures.faults) is)) c.merge_cut-ended.ensures.ok

@@ -6,7 +6,7 @@ use Rattle.history_rules.specs.Lines.{start_entry}
 use Rattle.history_rules.specs.declared.entry.Event.{Event}
 use Rattle.history_tables.specs.declared.jobs.JobRow.{JobRow}
 use Rattle.cluster_state.specs.Copies.{JobRuns}
-use Rattle.cluster_state.specs.CopyCalls.{JobHasPart, StopsTurn, stopped_log}
+use Rattle.cluster_state.specs.CopyCalls.{JobTakes, StopsTurn, stopped_log}
 use Rattle.cluster_state.specs.Run.{IsEnded}
 use Rattle.cluster_site.proofs.Asked.{copies_quiet, copies_in}
 use Rattle.cluster_site.proofs.Stands.{call_stands, call_does}
@@ -26,7 +26,7 @@ returns-clause-does g c = λ command copies. call_does g.D.Dir.cells g.D.Dir.pla
 
 pub returns-clause-ok : goal.returns-clause-ok
 returns-clause-ok g c =
-    subst (λ (s : SiteRun). IfOk c.copy_arrived.result (λ turn. (row : JobRow) → JobRuns s.run.log row → row.job.at ≡ c.args.at → JobHasPart row.job.node c.args.part.name s.run c.copy_arrived.new.self turn)) c.self.view_is c.copy_arrived.ensures.ok
+    subst (λ (s : SiteRun). IfOk c.copy_arrived.result (λ turn. (row : JobRow) → JobRuns s.run.log row → row.job.at ≡ c.args.at → JobTakes row.job c.args.part.name s.run c.copy_arrived.new.self turn)) c.self.view_is c.copy_arrived.ensures.ok
 
 pub returns-clause-stops : goal.returns-clause-stops
 returns-clause-stops g c =

@@ -32,7 +32,7 @@ invariant_of-self-2 g c =
 pub returns-clause-ok : goal.returns-clause-ok
 returns-clause-ok g c =
     promoted_whole g.D.Dir.cells g.D.Dir.plans c.args.n c.args.force c.args.at c.self.inside.cluster c.promote.new.self c.accept_lacking.new.cluster c.self.inside.log c.args.self.now c.self.view_is c.requires.running c.requires.fresh c.self.invariant c.in_ok-promote.ensures.ok
-    c.accept_lacking.ensures.nodes c.in_ok-promote.ensures.replied c.accept_lacking.result c.accept_lacking.ensures.running c.accept_lacking.ensures.done
+    c.accept_lacking.ensures.nodes c.in_ok-promote.ensures.replied c.accept_lacking.result c.accept_lacking.ensures.running c.accept_lacking.ensures.plans c.accept_lacking.ensures.done
 
 pub returns-clause-nodes : goal.returns-clause-nodes
 returns-clause-nodes g c =

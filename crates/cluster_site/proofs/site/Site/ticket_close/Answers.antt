@@ -4,6 +4,7 @@ use Rattle.history_book.specs.Log.{printed, shown}
 use Rattle.history_rules.specs.Tickets.{open_ticket}
 use Rattle.script_serving.specs.declared.script.LineCommand.TheVariants.{Close}
 use Rattle.cluster_state.specs.Calls.{close_by}
+use Rattle.cluster_state.specs.GivesUp.{met_log}
 use Rattle.cluster_state.specs.Run.{IsEnded, IsNow, KeepsRest}
 use Rattle.cluster_site.proofs.Stands.{call_stands, call_does}
 use Rattle.cluster_site.specs.Sites.{SiteRun}
@@ -19,7 +20,7 @@ returns-clause-does g c = call_does g.D.Dir.cells g.D.Dir.plans c.self.inside.cl
 
 pub returns-clause-ok : goal.returns-clause-ok
 returns-clause-ok g c =
-    subst (λ (s : SiteRun). OnOk c.ticket_close.result (IsNow s.run c.ticket_close.new.self (shown c.args.at (close_by c.args.t (open_ticket c.args.at.lane.0 c.args.t.0 (printed s.run.log))) ∷ s.run.log))) c.self.view_is c.ticket_close.ensures.ok
+    subst (λ (s : SiteRun). OnOk c.ticket_close.result (IsNow s.run c.ticket_close.new.self (shown c.args.at (close_by c.args.t (open_ticket c.args.at.lane.0 c.args.t.0 (printed s.run.log))) ∷ met_log c.args.at s.run c.ticket_close.new.self))) c.self.view_is c.ticket_close.ensures.ok
 
 pub returns-clause-rest : goal.returns-clause-rest
 returns-clause-rest g c = subst (λ (s : SiteRun). OnOk c.ticket_close.result (KeepsRest s.run c.ticket_close.new.self)) c.self.view_is c.ticket_close.ensures.rest

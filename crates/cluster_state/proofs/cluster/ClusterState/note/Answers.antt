@@ -39,5 +39,8 @@ returns-clause-tasks g c = ap (λ (r : Run). r.rest.tasks) c.self.view_is
 pub returns-clause-jobs : goal.returns-clause-jobs
 returns-clause-jobs g c = ap (λ (r : Run). r.rest.jobs) c.self.view_is
 
+pub returns-clause-plans : goal.returns-clause-plans
+returns-clause-plans g c = ap (λ (r : Run). r.rest.plans) c.self.view_is
+
 pub returns-clause-rest : goal.returns-clause-rest
 returns-clause-rest g c = kept_rest c.args.self.now _ _ c.self.view_is refl (c.show.ensures.cut ∙ c.in_ok-reserve.ensures.cut) refl refl refl refl

@@ -47,8 +47,8 @@ invariant_of-self c =
           c.step_rows.ensures.count
           c.step_rows.ensures.rows
           (subst (λ (p : Pages). IsCommitter c.args.at (printed p.log) c.args.event c.committer-line.result) (sym c.self.view_is) c.committer-line.ensures)
-          c.step.ensures
-          c.step-2.ensures
+          c.step.ensures.rows
+          c.step-2.ensures.rows
           (subst (λ (p : Pages). IsLife c.args.event (printed p.log) c.life-life.result) (sym c.self.view_is) c.life-life.ensures))),
       holds_shown c.args.by_task entry c.self.inside.nodes old _ _ _ (woven c.args.by_task _ _ _ _ entry stopped c.push_reserved.ensures.items) c.self.invariant.2,
       told_shown c.args.by_task entry old _ (woven c.args.by_task _ _ _ _ entry stopped c.push_reserved.ensures.items)

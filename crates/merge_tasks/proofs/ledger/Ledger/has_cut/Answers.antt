@@ -9,7 +9,7 @@ use Rattle.merge_tasks.proofs.ledger.Ledger.has_cut.Goals as goal
 pub returns-clause-owed : goal.returns-clause-owed
 returns-clause-owed c = λ is.
     subst (λ (s : Sheet). idle_publishes (printed s.log) < merges_started (printed s.log)) c.self.view_is
-    (publish_some _ c.self.inside.merges (sym c.has_cut.ensures ∙ is) c.self.invariant)
+    (publish_some _ c.self.inside.merges (sym c.has_cut.ensures ∙ is) c.self.invariant.0)
 
 pub returns-clause-since : goal.returns-clause-since
-returns-clause-since c = subst (λ (s : Sheet). c.has_cut.result ≡ cut_since s.log) c.self.view_is (c.has_cut.ensures ∙ c.self.invariant.since)
+returns-clause-since c = subst (λ (s : Sheet). c.has_cut.result ≡ cut_since s.log) c.self.view_is (c.has_cut.ensures ∙ c.self.invariant.0.since)

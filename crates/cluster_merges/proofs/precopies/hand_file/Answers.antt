@@ -1,0 +1,67 @@
+use Rattle.std.proofs.Common.{◌∷◌, ◌∙◌, None, inl, ap, subst}
+use Rattle.codec_frame.specs.Bytes.{AreBytes}
+use Rattle.history_book.specs.Log.{Log, kept}
+use Rattle.link_model.specs.declared.fate.Fate.TheVariants.{Whole}
+use Rattle.history_book.specs.declared.inner.Inner.TheVariants.{FileOut}
+use Rattle.merge_tasks.specs.Board.{open_merge, spread_at}
+use Rattle.cluster_nodes.specs.Places.{place_of}
+use Rattle.node_merges.specs.declared.copies.CopyStep.TheVariants.{Wants}
+use Rattle.cluster_merges.specs.TaskMet.{mets, behind}
+use Rattle.cluster_merges.proofs.CopyFacts.{spread_some, place_misses, no_job, next_file, may_read}
+use Rattle.cluster_merges.proofs.CopyPaths.{handed_all, handed_file, drop_there, drop_path}
+use Rattle.cluster_merges.proofs.TaskBehind.{primary_behind, all_behind, as_many_met, went_done, went_failed}
+use Rattle.cluster_merges.proofs.precopies.hand_file.Goals as goal
+
+pub read_in-requires : goal.read_in-requires
+read_in-requires g c = may_read g.D.Dir.cells c.args.ledger.now c.args.tasks.now c.args.places.now.items c.requires.shown c.args.p c.requires.source c.requires.primary c.args.name c.args.meta (next_file g.D.Dir.cells c.args.ledger.now c.args.tasks.now c.args.places.now.items c.requires.shown c.args.p c.requires.source c.requires.primary c.args.n.0 c.args.seg.0 c.args.job c.args.name c.args.meta c.requires.node c.requires.step)
+
+-- ---- it was read
+
+pub show_task_met-requires-clause-count : goal.show_task_met-requires-clause-count
+show_task_met-requires-clause-count g c = as_many_met g.D.FaultDir.planned c.args.before.now c.args.places.now.items c.args.ledger.now.nodes c.requires.before c.requires.shown.0.count
+
+pub show_task_met-requires-clause-places : goal.show_task_met-requires-clause-places
+show_task_met-requires-clause-places g c = (went_done _ _ _ c.in-Done.source c.in-Done.is c.in_ok-source.ensures.went).moves.count ∙ c.requires.shown.0.count
+
+pub returns-in_ok-show_task_met-in-Done-clause-shown : goal.returns-in_ok-show_task_met-in-Done-clause-shown
+returns-in_ok-show_task_met-in-Done-clause-shown g c =
+    handed_all g.D.Dir.cells (behind c.args.at c.args.before.now (mets g.D.FaultDir.planned c.read_in.new.places.items) c.args.ledger.now) c.keep.new.self c.args.tasks.now c.args.places.now.items c.read_in.new.places.items
+    (all_behind c.args.at c.args.before.now (mets g.D.FaultDir.planned c.read_in.new.places.items) g.D.Dir.cells c.args.ledger.now c.args.tasks.now c.args.places.now.items c.requires.shown) c.args.p c.requires.source (primary_behind c.args.at c.args.before.now (mets g.D.FaultDir.planned c.read_in.new.places.items) c.args.ledger.now.log c.args.p c.requires.primary) c.args.line c.args.seg c.args.n c.args.job c.requires.node
+    c.args.name c.args.meta c.in-Done.source c.in_ok-copy-in-Done.copy c.requires.step (went_done _ _ _ c.in-Done.source c.in-Done.is c.in_ok-source.ensures.went) c.in_ok-copy-in-Done.ensures
+    (c.keep.ensures.log ∙ ap (λ (l : Log). kept (FileOut c.args.line c.args.n c.args.job c.args.name c.in_ok-copy-in-Done.copy Whole None) ∷ l) c.in_ok-show_task_met-in-Done.ensures.log) (c.keep.ensures.nodes ∙ c.show_task_met.ensures.nodes) (c.keep.ensures.cut ∙ c.show_task_met.ensures.cut)
+
+pub returns-in_ok-show_task_met-in-Done-clause-ok : goal.returns-in_ok-show_task_met-in-Done-clause-ok
+returns-in_ok-show_task_met-in-Done-clause-ok g c =
+    handed_file g.D.Dir.cells (behind c.args.at c.args.before.now (mets g.D.FaultDir.planned c.read_in.new.places.items) c.args.ledger.now) c.keep.new.self c.args.tasks.now c.args.places.now.items c.read_in.new.places.items
+    (all_behind c.args.at c.args.before.now (mets g.D.FaultDir.planned c.read_in.new.places.items) g.D.Dir.cells c.args.ledger.now c.args.tasks.now c.args.places.now.items c.requires.shown) c.args.p c.requires.source (primary_behind c.args.at c.args.before.now (mets g.D.FaultDir.planned c.read_in.new.places.items) c.args.ledger.now.log c.args.p c.requires.primary) c.args.line c.args.seg c.args.n c.args.job c.requires.node
+    c.args.name c.args.meta c.in-Done.source c.in_ok-copy-in-Done.copy c.requires.step (went_done _ _ _ c.in-Done.source c.in-Done.is c.in_ok-source.ensures.went) c.in_ok-copy-in-Done.ensures
+    (c.keep.ensures.log ∙ ap (λ (l : Log). kept (FileOut c.args.line c.args.n c.args.job c.args.name c.in_ok-copy-in-Done.copy Whole None) ∷ l) c.in_ok-show_task_met-in-Done.ensures.log) (c.keep.ensures.nodes ∙ c.show_task_met.ensures.nodes) (subst AreBytes c.as_slice.ensures c.are_bytes.ensures)
+
+pub returns-in_ok-show_task_met-in-Done-clause-turn : goal.returns-in_ok-show_task_met-in-Done-clause-turn
+returns-in_ok-show_task_met-in-Done-clause-turn g c = (
+  place_misses c.args.seg.0 c.args.job (Wants c.args.name c.args.meta) (place_of c.args.places.now.items c.args.n.0) c.requires.step,
+  no_job g.D.Dir.cells c.args.ledger.now c.args.tasks.now c.args.places.now.items c.requires.shown c.args.n.0 c.args.seg.0 c.args.job c.args.name c.args.meta c.requires.node c.requires.step,
+)
+
+-- ---- the disk failed
+
+pub drop_in-requires : goal.drop_in-requires
+drop_in-requires g c = drop_there g.D.Dir.cells c.args.ledger.now c.args.tasks.now c.args.places.now.items c.read_in.new.places.items c.requires.shown c.args.p c.requires.source c.args.seg c.args.n c.args.job c.requires.node c.args.name c.args.meta c.requires.step (went_failed _ _ _ c.in-Failed.is c.in_ok-source.ensures.went)
+
+pub fail_task-requires-clause-count : goal.fail_task-requires-clause-count
+fail_task-requires-clause-count g c = as_many_met g.D.FaultDir.planned c.args.before.now c.args.places.now.items c.args.ledger.now.nodes c.requires.before c.requires.shown.0.count
+
+pub fail_task-requires-clause-places : goal.fail_task-requires-clause-places
+fail_task-requires-clause-places g c = c.drop_in.ensures.moves.count ∙ ((went_failed _ _ _ c.in-Failed.is c.in_ok-source.ensures.went).moves.count ∙ c.requires.shown.0.count)
+
+pub fail_task-requires-clause-written : goal.fail_task-requires-clause-written
+fail_task-requires-clause-written g c = spread_some (spread_at (open_merge c.args.seg.0 c.args.tasks.now.rows)) c.args.n.0 c.args.job c.requires.sent
+
+pub returns-in_ok-fail_task-in-Failed-clause-shown : goal.returns-in_ok-fail_task-in-Failed-clause-shown
+returns-in_ok-fail_task-in-Failed-clause-shown g c =
+    drop_path g.D.Dir.cells (behind c.args.at c.args.before.now (mets g.D.FaultDir.planned c.drop_in.new.places.items) c.args.ledger.now) c.args.tasks.now c.args.places.now.items c.read_in.new.places.items
+    (all_behind c.args.at c.args.before.now (mets g.D.FaultDir.planned c.drop_in.new.places.items) g.D.Dir.cells c.args.ledger.now c.args.tasks.now c.args.places.now.items c.requires.shown) c.args.p c.requires.source c.args.seg c.args.n c.args.job c.requires.node c.args.name c.args.meta c.requires.step (went_failed _ _ _ c.in-Failed.is c.in_ok-source.ensures.went)
+    c.fail_task.new.ledger c.fail_task.new.tasks c.drop_in.new.places.items c.args.line c.args.by (primary_behind c.args.at c.args.before.now (mets g.D.FaultDir.planned c.drop_in.new.places.items) c.args.ledger.now.log c.args.p c.requires.primary) c.requires.sent c.in_ok-fail_task-in-Failed.ensures.ok.ends c.drop_in.ensures
+
+pub returns-in_ok-fail_task-in-Failed-clause-ok : goal.returns-in_ok-fail_task-in-Failed-clause-ok
+returns-in_ok-fail_task-in-Failed-clause-ok g c = inl c.in_ok-fail_task-in-Failed.ensures.ok

@@ -1,0 +1,14 @@
+use Rattle.script_serving.specs.declared.script.LineCommand.TheVariants.{Fault}
+use Rattle.lane_sections.proofs.Sections.{found_entered, call_extends, on_call_ends}
+use Rattle.lane_lines.proofs.planning.fault.Goals as goal
+
+pub leave-requires-clause-extends : goal.leave-requires-clause-extends
+leave-requires-clause-extends g c =
+    let entered = found_entered c.args.lanes.now.lock.now c.args.at c.args.seat.now c.enter_site.new.seat c.value.result.now c.in_ok-held.held c.value.ensures.value c.in_ok-held.ensures.entered c.in_ok-held.ensures.logged in
+    call_extends c.args.lanes.now.lock.now (Fault c.args.n c.args.plan) c.args.at c.args.seat.now c.enter_site.new.seat c.value.result.now c.fault-answer.new.self entered c.fault-answer.result c.fault-answer.ensures.does c.fault-answer.ensures.err
+
+pub returns : goal.returns
+returns g c =
+    let entered = found_entered c.args.lanes.now.lock.now c.args.at c.args.seat.now c.enter_site.new.seat c.value.result.now c.in_ok-held.held c.value.ensures.value c.in_ok-held.ensures.entered c.in_ok-held.ensures.logged in
+    on_call_ends c.args.lanes.now.lock.now (Fault c.args.n c.args.plan) c.args.at c.args.seat.now c.enter_site.new.seat c.value.result.now c.fault-answer.new.self entered c.leave.new.seat c.leave.ensures.seat
+    c.leave.ensures.seen c.fault-answer.result c.fault-answer.ensures.does c.fault-answer.ensures.replied
