@@ -1,5 +1,4 @@
 mod Writes
-mod BuiltScripts
 mod JudgeAnswers
 mod Leaving
 mod Loads

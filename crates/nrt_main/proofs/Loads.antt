@@ -1,14 +1,11 @@
 -- A load: its words, its script and its summary.
 use Rattle.std.proofs.Common.{◌≡◌, ◌≤◌, ◌<◌, ℕ, true, false, List, [], ◌∷◌, ◌++◌, length, take, get_or, reverse, Option, refl, ap, ◌∙◌, sym, subst, arith}
 use Rattle.std.specs.Prelude.{codes, MatchOption, IsSomeAnd}
-use Rattle.std.specs.List.{list_all}
 use Rattle.std.specs.Fmt.{decimal}
 use Rattle.std.specs.Io.KnownBytes.{Appends}
-use Rattle.std.proofs.lemmas.Bool.{and_from}
 use Rattle.std.proofs.lemmas.Bool.Decides.{nat_tests}
 use Rattle.std.proofs.lemmas.Fmt.{decimal_injective}
 use Rattle.std.proofs.lemmas.List.{reverse-reverse}
-use Rattle.std.proofs.lemmas.List.Folds.{list_all-append}
 use Rattle.nrt_base.specs.Bytes.{is_between}
 use Rattle.history_rules.specs.declared.entry.Entry.{Entry}
 use Rattle.history_rules.specs.Legal.{IsLegal}
@@ -18,16 +15,12 @@ use Rattle.script_text.specs.Reading.{number_within}
 use Rattle.script_text.proofs.NumberLemmas.{number_case}
 use Rattle.script_text.proofs.NumberLaws.{number_in}
 use Rattle.script_text.specs.Refused.{is_number_in}
-use Rattle.script_text.proofs.FormLemmas.{all_of_phases}
-use Rattle.script_serving.specs.declared.script.Line.{Line}
 use Rattle.script_serving.specs.declared.script.Script.{Script}
 use Rattle.script_serving.specs.Serves.{Serves}
-use Rattle.load_script.specs.Generated.{load_lane, load_commands, load_lines, generated_script}
+use Rattle.load_script.specs.Generated.{generated_script}
 use Rattle.load_script.specs.Totals.{totals_in, totals_of, summary_text}
-use Rattle.load_script.proofs.LoadForm.{last_of, phases_for, lines_all, commands_all, load_all}
 use Rattle.load_script.proofs.Searching.{totals_are}
 use Rattle.cluster_state.specs.Run.{Run}
-use Rattle.cluster_run.specs.Built.{is_run, IsPlainScript}
 use Rattle.cluster_run.specs.Running.{history_of}
 use Rattle.std.proofs.KnownBytes.{Consumes-nil}
 use Rattle.nrt_main.specs.Headline.{TakesWithin}
@@ -99,23 +92,6 @@ asked_pair words a s b u result is first second same number = asked words a b re
 pub one_load : (words : List (List ℕ)) (m n : ℕ) → IsLoadOf words m → IsLoadOf words n → m ≡ n
 one_load words m n one two =
     decimal_injective m n (omega (arith, one.high)) (omega (arith, two.high)) (two_words (codes "load") (decimal m) (codes "load") (decimal n) (sym one.is ∙ two.is)).1
-
--- ---- the script
-
--- each line of the script is run
-lines_run : (n : ℕ) → list_all (λ line. is_run line.command) (load_lines n) ≡ true
-lines_run n =
-    load_all (λ line. is_run line.command) n
-    (λ i k low high. lines_all is_run k (load_lane i) (load_commands i) (commands_all is_run i refl (λ is. refl) refl refl (λ is. refl)))
-
--- so the program runs the script
-pub plain_of : (n : ℕ) (script : Script) → script ≡ generated_script n → IsPlainScript script
-plain_of n script is = subst IsPlainScript (sym is) (all_of_phases (λ line. is_run line.command) (phases_for n) both)
-  where
-    both : list_all (λ line. is_run line.command) (load_lines n ++ (last_of n ++ [])) ≡ true
-    both =
-        list_all-append (λ (line : Line). is_run line.command) (load_lines n) (last_of n ++ [])
-        ∙ and_from (list_all (λ line. is_run line.command) (load_lines n)) true (lines_run n) refl
 
 -- ---- the summary
 

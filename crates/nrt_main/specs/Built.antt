@@ -1,10 +1,10 @@
 -- What the program runs so far: the first statement of a script that it does not run.
-use Rattle.std.specs.Prelude.{ℕ, ◌≡◌, List, [], ◌∷◌, codes, Bool, not, if◌then◌else◌, Option, Some, None, bytes_eq}
+use Rattle.std.specs.Prelude.{ℕ, ◌≡◌, ◌||◌, List, [], ◌∷◌, codes, Bool, not, if◌then◌else◌, Option, Some, None, bytes_eq}
 use Rattle.script_text.specs.Grammar.{Statement, statements_of, word_at, words_in}
 
--- the program runs a statement of these words of a script: it is no line of `fault`
+-- the program runs a statement of these words of a script: it is no line of `fault`, or it plans a fault of a disk
 abbrev pub is_built : List (List ℕ) → Bool
-is_built words = not (bytes_eq (codes "fault") (word_at 1 words))
+is_built words = (not (bytes_eq (codes "fault") (word_at 1 words)) || bytes_eq (codes "disk") (word_at 2 words)) || bytes_eq (codes "stop") (word_at 2 words)
 
 -- the line number of the first of these statements that the program does not run
 abbrev pub first_unbuilt : List Statement → Option ℕ

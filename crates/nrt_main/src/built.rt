@@ -7,12 +7,14 @@ ghost use Rattle.nrt_main.specs.Built.{IsFirstUnbuilt, RunsWhole, is_built as is
 use nrt_base::LineNo;
 use script_text::{LONGEST, first_words, is_word, next_statement};
 
-/// Whether the program runs this statement of a script so far: it is no line of `fault`.
+/// Whether the program runs this statement of a script so far: it is no line of `fault`, or it plans a fault of a disk.
 fn is_built(line: &[u8]) -> bool
     ensures { result ≡ is_built_lem (words_in line.now) }
 {
     let words = first_words(line);
     !is_word(b"fault", words.second)
+        || is_word(b"disk", words.third)
+        || is_word(b"stop", words.third)
 }
 
 /// The line of the first statement that the program does not run yet.

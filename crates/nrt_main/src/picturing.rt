@@ -4,7 +4,6 @@ ghost use Rattle.std.specs.Prelude.{◌≡◌, ◌≢◌, ◌≤◌, ◌<◌, �
 ghost use Rattle.nrt_base.specs.Causes.{Rose};
 ghost use Rattle.script_serving.specs.Form.{IsInForm};
 ghost use Rattle.script_text.specs.Refused.{IsFirstRefused};
-ghost use Rattle.cluster_run.specs.Built.{IsPlainScript};
 ghost use Rattle.report_judge.specs.Sources.{script_part};
 ghost use Rattle.nrt_main.specs.Headline.{RefusesLine, IsAnswer, TakesWithin, TakesMore, longest};
 ghost use Rattle.nrt_main.specs.Judge.{TellsIllegal, IsScriptRefusal, IsJudgeAnswer, FoundIllegal};
@@ -56,7 +55,6 @@ fn show_run<R: Threads + Wait + Sync, G: Gate + Sync>(
     script: &Script,
 ) -> Result<Vec<u8>, NoMemory>
     requires form { IsInForm script.now }
-    requires built { IsPlainScript script.now }
     ensures { IfOk result (λ text. ShowsScript (picture_by kind) script.now text.items) }
 {
     let cluster = run_script(rt, alloc, gate, script)?;
@@ -129,7 +127,7 @@ fn show_report<K: Sink>(alloc: Global, kind: PictureKind, bytes: &[u8], sink: &m
 }
 
 /// Runs the script that the bytes are, and writes what is shown of its run.
-#[tactic(auto, using(crate::proofs::BuiltScripts::is_built_script, crate::proofs::Shown::shows_whole, crate::proofs::Shown::shows_front, crate::proofs::AnswerLaws::run_answer, crate::proofs::AnswerLaws::refusal_answer))]
+#[tactic(auto, using(crate::proofs::Shown::shows_whole, crate::proofs::Shown::shows_front, crate::proofs::AnswerLaws::run_answer, crate::proofs::AnswerLaws::refusal_answer))]
 fn show_script<R: Threads + Wait + Sync, K: Sink, G: Gate + Sync>(
     rt: &R,
     alloc: Global,

@@ -2,6 +2,7 @@ ghost use Rattle.std.specs.Prelude.{◌≤◌, length};
 ghost use Rattle.nrt_main.specs.Headline.{longest};
 
 mod failing;
+mod faulty;
 
 use crate::gate::OpenGate;
 use crate::status::Status;
@@ -256,7 +257,7 @@ fn refused_lines(rt: HostRuntime) -> Result<(), Fail> {
 fn lines_not_built(rt: HostRuntime) -> Result<(), Fail> {
     let rows: &[(&[u8], u32)] = &[
         (b"nodes 2\n1 merge 2\n1 drain 9\n1 fault link 2 1", 4),
-        (b"nodes 3\n8 commit 3\njoin\n2 fault stop 1 1", 4),
+        (b"nodes 3\n8 commit 3\njoin\n2 fault damage 1 1 40", 4),
     ];
     for (script, line) in rows {
         let (status, text) = run(&rt, rt.alloc(), &[b"run"], script, &[], &[])?;

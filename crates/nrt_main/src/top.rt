@@ -3,7 +3,6 @@
 ghost use Rattle.std.specs.Prelude.{◌≡◌, ◌≤◌, length, ◌<◌, ◌-◌, ◌^◌, ◌↔◌, ◌≢◌, ℕ, [], ◌∷◌, None, IsTrue, IsSomeAnd, IfOk, IfErr};
 ghost use Rattle.nrt_base.specs.Causes.{Rose};
 ghost use Rattle.script_serving.specs.Form.{IsInForm};
-ghost use Rattle.cluster_run.specs.Built.{IsPlainScript};
 ghost use Rattle.nrt_main.specs.Headline.{Ran, Answers, RanInPart, AnswersInPart, IsRunnable, RefusesLine, IsAnswer, AnswersWhole, Refuses, IsRun, LeavesRun, LeavesRunInPart, TakesWithin, TakesMore, longest};
 ghost use Rattle.wire_frames.specs.Runs.{GaveBadStream, GaveMore};
 ghost use Rattle.nrt_main.specs.Frames.{IsFrames, RanFrames, RanFramesInPart, IsFramesAnswer};
@@ -65,7 +64,6 @@ fn run_report<R: Threads + Wait + Sync, G: Gate + Sync>(
     script: &Script,
 ) -> Result<(Cluster<MemDir>, Vec<u8>), NoMemory>
     requires form { IsInForm script.now }
-    requires built { IsPlainScript script.now }
     ensures { IfOk result (λ run. IsReport script.now run.0 run.1.items) }
 {
     let cluster = run_script(rt, alloc, gate, script)?;
@@ -74,7 +72,7 @@ fn run_report<R: Threads + Wait + Sync, G: Gate + Sync>(
 }
 
 /// Runs the script that the bytes are.
-#[tactic(auto, using(crate::proofs::BuiltScripts::is_built_script, crate::proofs::Leaving::leaves_text, crate::proofs::Leaving::leaves_front, crate::proofs::Leaving::answers_text, crate::proofs::Leaving::answers_front, crate::proofs::AnswerLaws::run_answer, crate::proofs::AnswerLaws::refusal_answer))]
+#[tactic(auto, using(crate::proofs::Leaving::leaves_text, crate::proofs::Leaving::leaves_front, crate::proofs::Leaving::answers_text, crate::proofs::Leaving::answers_front, crate::proofs::AnswerLaws::run_answer, crate::proofs::AnswerLaws::refusal_answer))]
 fn run_bytes<R: Threads + Wait + Sync, K: Sink, G: Gate + Sync>(
     rt: &R,
     alloc: Global,

@@ -1,8 +1,5 @@
-use Rattle.nrt_main.proofs.Loads.{plain_of, summary_is}
+use Rattle.nrt_main.proofs.Loads.{summary_is}
 use Rattle.nrt_main.proofs.loading.run_load.Goals as goal
-
-pub run_script-requires-clause-built : goal.run_script-requires-clause-built
-run_script-requires-clause-built g c κs within = plain_of c.args.n c.in_ok-script.script c.in_ok-script.ensures.script
 
 pub returns : goal.returns
 returns g c =

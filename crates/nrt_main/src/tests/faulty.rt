@@ -1,0 +1,244 @@
+//! Planned faults of disks: whatever fails, the report is legal.
+
+use super::{Meeting, has_line, run_gated, words};
+use crate::gate::OpenGate;
+use crate::status::Status;
+use crate::top::run_nrt;
+use cluster_run::{Gate, Place};
+use nrt_streams::{MemSink, MemSource};
+use std::alloc::Global;
+use std::sync::Wait;
+use std::test::Fail;
+use std::thread::Threads;
+
+/// A run of a word over what the source holds: its status, and what the sink holds then.
+fn ran<R: Threads + Wait + Sync>(
+    rt: &R,
+    alloc: Global,
+    word: &[u8],
+    held: Vec<u8>,
+) -> Result<(Status, Vec<u8>), Fail> {
+    let words = words(alloc, &[word])?;
+    let mut source = MemSource::new(held, 4096, Vec::new(alloc));
+    let mut sink = MemSink::new(alloc, 1_048_576, 4096, Vec::new(alloc))?;
+    let mut kept = None;
+    let status = run_nrt(
+        rt,
+        alloc,
+        words.as_slice(),
+        &mut source,
+        &mut sink,
+        &OpenGate,
+        &mut kept,
+    );
+    Ok((status, sink.bytes().to_vec(alloc)?))
+}
+
+/// The report of a script, where it was run.
+fn report_of<R: Threads + Wait + Sync>(
+    rt: &R,
+    alloc: Global,
+    script: &[u8],
+) -> Result<Vec<u8>, Fail> {
+    let (status, text) = ran(rt, alloc, b"run", script.to_vec(alloc)?)?;
+    match status {
+        Status::Done => Ok(text),
+        _ => Err(Fail::from("it was not run")),
+    }
+}
+
+/// Whether the report of a script is judged to be legal.
+fn is_legal<R: Threads + Wait + Sync>(rt: &R, alloc: Global, script: &[u8]) -> Result<bool, Fail> {
+    let report = report_of(rt, alloc, script)?;
+    let mut both = script.to_vec(alloc)?;
+    both.extend_from_slice(b"report\n")?;
+    both.extend_from_slice(report.as_slice())?;
+    let (status, _) = ran(rt, alloc, b"judge", both)?;
+    Ok(status == Status::Done)
+}
+
+// A publish whose first file cannot be made: its operation stays for the next one.
+const PUBLISH: &[u8] =
+    b"nodes 2\n1 put a x\n1 fault disk 1 1\n1 publish\n1 publish\n1 search 1 x\n";
+
+// A copy whose second part cannot be written: the next one takes the first over.
+const COPY: &[u8] =
+    b"nodes 2\n1 put a x\n1 publish\n1 fault disk 2 2\n1 copy 2\n1 files 2\n1 copy 2\n";
+
+// A reopening whose first call fails leaves its node down.
+const REOPEN: &[u8] =
+    b"nodes 2\n1 put a x\n1 publish\n1 copy 2\n1 crash 2 0\n1 fault disk 2 1\n1 reopen 2\n1 reopen 2\n";
+
+// The removal of the older commit's file fails: the commit is made.
+const REMOVAL: &[u8] =
+    b"nodes 2\n1 put a x\n1 publish\n1 copy 2\n1 commit 2\n1 put b x\n1 publish\n1 copy 2\n1 fault stop 2 7\n1 commit 2\n";
+
+#[test]
+fn rows_of_faults(rt: HostRuntime) -> Result<(), Fail> {
+    let rows: &[(&[u8], &[u8])] = &[
+        (
+            PUBLISH,
+            b"2 accepted 1\n3 planned disk 1 1\n4 publishing\n4 fault 1 disk\n4 refused disk-fault\n5 publishing\n5 published 1 2\n6 opened 1 0 2\n6 answer 1 0 2 1 1:a\n",
+        ),
+        (
+            COPY,
+            b"\n4 planned disk 2 2\n5 copying 2 2\n5 fault 2 disk\n5 refused disk-fault\n6 files 2 _10000.docs_1.tmp\n7 copying 2 2\n7 switched 2 2\n7 copied 2 2\n",
+        ),
+        (
+            REOPEN,
+            b"\n5 crashed 2\n6 planned disk 2 1\n7 fault 2 disk\n7 refused disk-fault\n8 reopened 2 1\n",
+        ),
+        (
+            REMOVAL,
+            b"\n9 planned stop 2 7\n10 committing 2 3\n10 fault 2 stop\n10 committed 2 3\n",
+        ),
+    ];
+    for (script, wanted) in rows {
+        let text = report_of(&rt, rt.alloc(), script)?;
+        assert!(rt; text.ends_with(wanted));
+    }
+    Ok(())
+}
+
+// A commit of version 2, and version 3 at the node.
+const COMMITTED: &str =
+    "nodes 2\n1 put a x\n1 publish\n1 copy 2\n1 commit 2\n1 put b x\n1 publish\n1 copy 2\n";
+
+// The call of the second commit at which the disk stops, what a crash keeps then, and the version that is found.
+const STOPS: [(u32, u32, u32); 14] = [
+    (1, 0, 2),
+    (2, 0, 2),
+    (3, 0, 2),
+    (4, 0, 2),
+    (5, 0, 2),
+    (6, 0, 3),
+    (7, 0, 3),
+    (1, 1, 2),
+    (2, 1, 2),
+    (3, 1, 2),
+    (4, 1, 2),
+    (5, 1, 3),
+    (6, 1, 2),
+    (7, 1, 3),
+];
+
+#[test]
+fn stopped_commits(rt: HostRuntime) -> Result<(), Fail> {
+    let alloc = rt.alloc();
+    for (call, pick, version) in STOPS {
+        let script = format!(in alloc;
+            "{COMMITTED}1 fault stop 2 {call}\n1 commit 2\n1 crash 2 {pick}\n1 reopen 2\n"
+        )?;
+        let text = report_of(&rt, alloc, script.as_bytes())?;
+        let wanted = format!(in alloc; "\n12 reopened 2 {version}\n")?;
+        assert!(rt; text.ends_with(wanted.as_bytes()));
+    }
+    Ok(())
+}
+
+// Two publishes, a copy, a commit, a crash, a reopening and a search.
+const LIVES: &[u8] =
+    b"1 put a x\n1 publish\n1 put b x\n1 publish\n1 copy 2\n1 commit 2\n1 crash 2 0\n1 reopen 2\n1 search 2 x\n";
+
+// The same with a ticket, a merge, a settle, commits of both nodes and a promotion.
+const MERGES: &[u8] =
+    b"1 put a x\n1 publish\n1 open 1 3\n1 put b x\n1 publish\n1 settle\n1 merge 2\n1 drain 9\n1 publish\n1 close 3\n1 commit 1\n1 commit 2\n1 commit 1\n1 commit 2\n1 settle\n1 crash 1 0\n1 promote 2 auto\n1 put c x\n1 publish\n1 reopen 1\n1 copy 1\n1 search 1 x\n1 files 1\n1 files 2\n";
+
+#[test]
+fn faults_of_disks(rt: HostRuntime) -> Result<(), Fail> {
+    let alloc = rt.alloc();
+    for kind in ["disk", "stop"] {
+        for node in 1..=2u32 {
+            for call in 1..=20u32 {
+                for rest in [LIVES, MERGES] {
+                    let plan = format!(in alloc; "nodes 2\n1 fault {kind} {node} {call}\n")?;
+                    let mut script = plan.as_bytes().to_vec(alloc)?;
+                    script.extend_from_slice(rest)?;
+                    assert!(rt; is_legal(&rt, alloc, script.as_slice())?);
+                }
+            }
+        }
+    }
+    Ok(())
+}
+
+// Each lane, and the node whose disk it lets fail and that it commits.
+const LANES: [(u32, u32); 8] = [
+    (1, 1),
+    (2, 2),
+    (3, 3),
+    (4, 1),
+    (5, 2),
+    (6, 3),
+    (7, 1),
+    (8, 2),
+];
+
+/// A script whose eight lanes put, search, copy, publish, commit and merge at the same time while disks fail.
+fn eight_lanes(alloc: Global) -> Result<Vec<u8>, Fail> {
+    let mut script = b"nodes 3\nworkers 4\n".to_vec(alloc)?;
+    for turn in 1..=20u32 {
+        for (lane, node) in LANES {
+            let line = match turn % 10 {
+                1 | 6 => format!(in alloc; "{lane} put {lane}-{turn} wide w1\n")?,
+                2 | 7 => format!(in alloc; "{lane} fault disk {node} {turn}\n")?,
+                3 | 8 => format!(in alloc; "{lane} copy 2\n")?,
+                4 | 9 => format!(in alloc; "{lane} commit {node}\n")?,
+                5 => format!(in alloc; "{lane} publish\n")?,
+                _ => format!(in alloc; "{lane} merge 2\n")?,
+            };
+            script.extend_from_slice(line.as_bytes())?;
+        }
+    }
+    Ok(script)
+}
+
+#[test]
+fn eight_lanes_and_faults(rt: HostRuntime) -> Result<(), Fail> {
+    let alloc = rt.alloc();
+    let script = eight_lanes(alloc)?;
+    assert!(rt; is_legal(&rt, alloc, script.as_slice())?);
+    Ok(())
+}
+
+/// Holds the build of line 7 until line 5 came to a chunk, and that chunk until the search of line 10.
+#[derive(Drop)]
+struct HoldsOlder {
+    first: Meeting,
+    second: Meeting,
+}
+
+impl Gate for HoldsOlder {
+    fn pass(&self, place: Place) {
+        match place {
+            Place::Chunk(..) => {
+                self.first.arrive();
+                self.second.wait();
+            }
+            Place::Build(line) => {
+                if line.0 == 7 {
+                    self.first.wait();
+                }
+            }
+            Place::Evaluate(..) => self.second.arrive(),
+            Place::Merge(_) => {}
+        }
+    }
+}
+
+// A copy of version 3 that is refused as the disk of its source fails, beside one of version 2, which goes on.
+const NOT_OVERTAKEN: &[u8] =
+    b"nodes 2\n1 put a x\n1 publish\njoin\n1 copy 2\n2 put b x\n2 publish\n2 fault disk 1 1\n2 copy 2\n2 search 1 x\n";
+
+#[test]
+fn copy_not_overtaken(rt: HostRuntime) -> Result<(), Fail> {
+    let gate = HoldsOlder {
+        first: Meeting::new(),
+        second: Meeting::new(),
+    };
+    let (status, text) = run_gated(&rt, rt.alloc(), &gate, &[b"run"], NOT_OVERTAKEN, &[], &[])?;
+    assert!(rt; status == Status::Done && gate.first.was_in_time() && gate.second.was_in_time());
+    assert!(rt; has_line(text.as_slice(), b"9 refused disk-fault"));
+    assert!(rt; has_line(text.as_slice(), b"5 switched 2 2"));
+    Ok(())
+}
