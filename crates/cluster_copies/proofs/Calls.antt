@@ -1,5 +1,5 @@
 -- What calls of copies and settles rest on behind the faults that they met, in the terms of a call.
-use Rattle.std.proofs.Common.{◌≡◌, ◌≢◌, ◌<◌, ◌==◌, ◌||◌, nat_lt, ℕ, Bool, true, false, if◌then◌else◌, List, ◌∷◌, Some, None, Option, refl, ap, ◌∙◌, sym, subst, length}
+use Rattle.std.proofs.Common.{◌≡◌, ◌≢◌, ◌<◌, ◌==◌, ◌||◌, nat_lt, ℕ, Bool, true, false, if◌then◌else◌, List, ◌∷◌, ◌⊎◌, inl, inr, Some, None, Option, refl, ap, ◌∙◌, sym, subst, length}
 use Rattle.std.specs.Prelude.{IfSome, not}
 use Rattle.std.proofs.lemmas.Bool.{eq-eqb, eqb-true, or_right}
 use Rattle.nrt_base.specs.declared.numbers.At.{At}
@@ -10,11 +10,14 @@ use Rattle.copy_job.specs.declared.copying.Part.{Part}
 use Rattle.copy_job.proofs.Placings.{own_to}
 use Rattle.replica_node.specs.declared.job.PointJob.{PointJob}
 use Rattle.replica_node.specs.declared.parts.ReplicaParts.{ReplicaParts}
+use Rattle.history_rules.specs.declared.cause.Cause.{Cause}
 use Rattle.history_rules.specs.declared.cause.Cause.TheVariants.{DiskFault}
 use Rattle.history_rules.specs.declared.entry.Event.{Event}
 use Rattle.history_rules.specs.declared.entry.Event.TheVariants.{Publishing, Copying, Settling, Refused}
-use Rattle.history_rules.specs.Nodes.{Past, IsNode, IsReplica, is_at, primary_of, crashes, primary_crashes, newest_version, version_of}
+use Rattle.history_rules.specs.Nodes.{Past, IsNode, IsReplica, is_at, is_running, primary_of, crashes, primary_crashes, newest_version, version_of}
 use Rattle.history_rules.specs.Lines.{start_entry, before_start, highest_switched, SourceSurvives, copy_in_flight}
+use Rattle.history_rules.specs.Points.{IsDrawnFile}
+use Rattle.history_rules.specs.Rules.{IsLineWhole, fetches_at}
 use Rattle.history_rules.specs.Legal.{KeepsRule, IsLegalPast}
 use Rattle.history_tables.specs.declared.jobs.JobRow.{JobRow}
 use Rattle.history_tables.specs.JobRows.{while_going}
@@ -25,7 +28,10 @@ use Rattle.history_book.specs.declared.inner.Inner.TheVariants.{JobEnd}
 use Rattle.history_book.specs.Jobs.{job_at, last_job, IsOlder, StartsJob, LaneJobShows}
 use Rattle.history_book.specs.Turns.{InTurn, AreInTurn, IsUnbegun}
 use Rattle.history_book.proofs.LineLaws.{without_some}
+use Rattle.link_model.specs.declared.fate.Fate.{Fate}
+use Rattle.link_model.specs.declared.fate.Fate.TheVariants.{Whole}
 use Rattle.merge_tasks.specs.Board.{Board}
+use Rattle.merge_tasks.specs.Fates.{fate_by, fate_due, file_plans}
 use Rattle.merge_tasks.specs.Merging.{Sheet}
 use Rattle.cluster_nodes.specs.declared.nodes.Node.TheVariants.{Primary, Replica}
 use Rattle.cluster_nodes.specs.declared.nodes.NodePlace.{NodePlace}
@@ -34,6 +40,7 @@ use Rattle.cluster_nodes.specs.JobChanges.{StopsAt}
 use Rattle.cluster_nodes.specs.JobPlaces.{AltersIn, StopsIn}
 use Rattle.cluster_state.specs.Run.{JobFiles, Rest, Run, files_at}
 use Rattle.cluster_state.specs.JobsIn.{job_files, place_files, jobs_in}
+use Rattle.cluster_state.specs.DueFaults.{MeetsFate, fate_cause, with_due}
 use Rattle.cluster_state.specs.FilesOut.{file_out}
 use Rattle.history_rules.specs.Faults.{has_just_failed}
 use Rattle.cluster_state.specs.FileChanges.{is_commit_line}
@@ -41,6 +48,7 @@ use Rattle.cluster_state.specs.Copies.{JobRuns}
 use Rattle.cluster_state.specs.Settles.{WaitsFor}
 use Rattle.cluster_state.specs.Met.{with_met, has_risen, ClusterStands}
 use Rattle.cluster_state.proofs.Naming.{FilesLast}
+use Rattle.cluster_state.proofs.FilesDue.{due_meets, due_stands, fetches, plans_still}
 use Rattle.cluster_state.proofs.JobsLeft.{files_are}
 use Rattle.cluster_state.proofs.FileJobs.{job_here, runs_at}
 use Rattle.cluster_state.proofs.Ledgers.{asked_of, asked_size}
@@ -51,7 +59,15 @@ use Rattle.cluster_copies.proofs.CopyPaths.{copy_before, copy_entry, copy_open, 
 use Rattle.cluster_copies.proofs.Ending.{not_publish, not_commit}
 use Rattle.cluster_copies.proofs.Failing.{altered_stands, refused_stands, started_stands, stopped_stands}
 use Rattle.cluster_copies.proofs.PartPaths.{there_both}
-use Rattle.cluster_copies.proofs.MetLines.{SameWords, met_words, unbegun_still, replica_still, source_still, older_still, waits_still, runs_still, line_still, lane_still, fails_met, fail_turn, job_start, may_fail, meets_source, meets_node}
+use Rattle.cluster_copies.proofs.MetLines.{SameWords, MeetsFault, met_words, unbegun_still, replica_still, source_still, node_still, older_still, waits_still, runs_still, line_still, lane_still, whole_still, fails_met, break_turn, fail_turn, job_start, may_fail, meets_source, meets_node, at_here}
+use Rattle.cluster_copies.proofs.DueLines.{due_words, lane_due_still, breaks_met}
+
+-- the ledger, and what callers see, behind the faults that were met and those that the next file for a node meets
+abbrev pub behind_due : At → ℕ → List (ℕ × ℕ) → List (ℕ × ℕ) → Sheet → Sheet
+behind_due at n olds news b = record b { log = with_due false at n (with_met false at 1 olds news b.log) }
+
+abbrev pub run_due : At → ℕ → List (ℕ × ℕ) → List (ℕ × ℕ) → Sheet → Run → Run
+run_due at n olds news b r = record { ended = r.ended; nodes = b.nodes; log = with_due false at n (with_met false at 1 olds news b.log); rest = r.rest }
 
 -- what is known in every call, once there is room
 pub record Call {D : Type 0} (cells : D → Cells) (r : Run) (b0 b1 : Sheet) (old : List (Option (NodePlace D))) (board : Board) : Type 0 where
@@ -187,6 +203,43 @@ module _ {D : Type 0} {cells : D → Cells} {r : Run} {b0 b1 : Sheet} {old : Lis
     pub primary_met : primary_of (printed met) ≡ Some p
     primary_met = words.primary ∙ primary1
 
+    -- a file for its node may meet a fault
+    pub fetches_met : fetches_at b1.nodes at (printed met) n ≡ true
+    fetches_met = fetches b1.nodes at (printed met) n row.job.version.0 lane_met.node lane_met.started
+
+    pub alive1 : is_running n (printed b1.log) ≡ true
+    alive1 = sym (words.running n) ∙ replica_met.running
+
+    -- at the log behind those that the next file meets
+    abbrev due : Log
+    due = with_due false at n met
+
+    words_due : SameWords at met due
+    words_due = due_words at at n met
+
+    pub due_stand : ClusterStands cells b1.nodes old b1.cut board due
+    due_stand = due_stands cells b1.nodes old b1.cut board false at n met (met_stands k.call at olds news)
+
+    pub runs_due : JobRuns due row
+    runs_due = runs_still row met due words_due runs_met
+
+    pub lane_due : LaneJobShows b1.nodes (printed due) row
+    lane_due = lane_due_still b1.nodes row at n met lane_met
+
+    pub replica_due : IsReplica (printed due) n
+    replica_due = replica_still at met due words_due n replica_met
+
+    pub primary_due : primary_of (printed due) ≡ Some p
+    primary_due = words_due.primary ∙ primary_met
+
+    -- the line has met what makes of the file what becomes of it
+    pub meets_due : (fate_due n b1.log ≡ Whole) ⊎ IsLineWhole b1.nodes (printed b1.log) at → MeetsFate (fate_due n met) at n (printed due)
+    meets_due spared = elim spared [
+      | inl whole ↦ subst (λ (f : Fate). MeetsFate f at n (printed due)) (sym (ap fate_by (plans_still false n at olds news b1.log) ∙ whole)) tt
+      | inr whole ↦ due_meets false at n (file_plans n met) met
+          (whole_still b1.nodes at at olds news b1.log whole n lane_met.node (node_still at b1.log met words n runs1.survives))
+    ]
+
     -- its line may be refused for the disk of its source, and for that of its node
     pub source_rule : has_risen p.0 1 olds news ≡ true → KeepsRule b1.nodes (printed met) at (Refused DiskFault)
     source_rule risen = fails_met b1.nodes at p.0 olds news b1.log
@@ -196,29 +249,40 @@ module _ {D : Type 0} {cells : D → Cells} {r : Run} {b0 b1 : Sheet} {old : Lis
     node_rule risen = fails_met b1.nodes at n olds news b1.log
         (meets_node b1.nodes (printed b1.log) at n row.job.version.0 legal1 begun1.0 begun1.1 starts1 line1 ordered1 runs1.survives runs1.source lane1.node) risen
 
+    -- and for what it met in a file
+    pub file_rule : (fate : Fate) (name : Name) → fate ≢ Whole → MeetsFate fate at n (printed r.log) → IsDrawnFile (printed met) name → KeepsRule b1.nodes (printed met) at (Refused (fate_cause fate name))
+    file_rule fate name broken found drawn =
+        let meets : MeetsFault b1.nodes (printed b1.log) at n = meets_node b1.nodes (printed b1.log) at n row.job.version.0 legal1 begun1.0 begun1.1 starts1 line1 ordered1 runs1.survives runs1.source lane1.node in
+        breaks_met b1.nodes at n olds news b1.log fate name meets
+        (at_here b1.nodes (printed b1.log) at n row.job.version.0 lane1.node meets.begun (subst (λ (o : Option Event). StartsJob (before_start at (printed b1.log)) n row.job.version.0 o) meets.started lane1.started))
+        broken (log_has k.call (λ l. MeetsFate fate at n (printed l)) found) drawn
+
+    pub broken_turn : (cause : Cause) → InTurn (printed met) at (Refused cause)
+    broken_turn cause = break_turn (printed met) at cause line_met
+
     pub refused_turn : InTurn (printed met) at (Refused DiskFault)
-    refused_turn = fail_turn (printed met) at line_met
+    refused_turn = broken_turn DiskFault
 
     -- the job at the node, once its line was refused
-    refused_job : (o : Option JobRow) → while_going n (printed (shown at (Refused DiskFault) ∷ met)) o ≡ while_going n (printed met) o
-    refused_job None = refl
-    refused_job (Some x) = refl
+    refused_job : (cause : Cause) (o : Option JobRow) → while_going n (printed (shown at (Refused cause) ∷ met)) o ≡ while_going n (printed met) o
+    refused_job cause None = refl
+    refused_job cause (Some x) = refl
 
     pub out_met : (part : Option Part) → IfSome part (λ x. file_out at n row.job.number x.name r.log ≡ Some x.bytes) → IfSome part (λ x. file_out at n row.job.number x.name met ≡ Some x.bytes)
     out_met None out = tt
     out_met (Some part) out = words.file n row.job.number part.name ∙ log_has k.call (λ l. file_out at n row.job.number part.name l ≡ Some part.bytes) out
 
     -- it was refused, and the job stopped
-    pub refused_path : (b2 : Sheet) (new : List (Option (NodePlace D))) (part : Option Part) → FilesLast → IsLegalPast b1.nodes (printed met) → AreInTurn (printed met) → KeepsRule b1.nodes (printed met) at (Refused DiskFault)
-        → b2.log ≡ kept (JobEnd at.line row.job.node row.job.number) ∷ shown at (Refused DiskFault) ∷ met → b2.nodes ≡ b1.nodes → b2.cut ≡ b1.cut
+    pub refused_path : (cause : Cause) (b2 : Sheet) (new : List (Option (NodePlace D))) (part : Option Part) → FilesLast → IsLegalPast b1.nodes (printed met) → AreInTurn (printed met) → KeepsRule b1.nodes (printed met) at (Refused cause)
+        → b2.log ≡ kept (JobEnd at.line row.job.node row.job.number) ∷ shown at (Refused cause) ∷ met → b2.nodes ≡ b1.nodes → b2.cut ≡ b1.cut
         → IfSome part (λ x. file_out at n row.job.number x.name r.log ≡ Some x.bytes) → StopsIn cells part p.0 n old new → ClusterStands cells b2.nodes new b2.cut board b2.log
-    refused_path b2 new part lasting legal turns rule e2 n2 c2 out b =
+    refused_path cause b2 new part lasting legal turns rule e2 n2 c2 out b =
         subst (λ (z : Log × (Bool × ℕ)). ClusterStands cells z.1.1 new z.1.0 board z.0) (λ i. (sym e2 i, (sym c2 i, sym n2 i)))
-        (stopped_stands cells b1.nodes b1.cut board (shown at (Refused DiskFault) ∷ met) old new p row.job part lasting
-        (refused_stands cells b1.nodes b1.cut board met old at DiskFault legal turns rule refused_turn
+        (stopped_stands cells b1.nodes b1.cut board (shown at (Refused cause) ∷ met) old new p row.job part lasting
+        (refused_stands cells b1.nodes b1.cut board met old at cause legal turns rule (broken_turn cause)
         (not_publish (printed met) (before_start at (printed b1.log)) at n row.job.version.0 (Some begun1.0) (words.begun ∙ begun1.1) starts1)
         (not_commit (printed met) (before_start at (printed b1.log)) at n row.job.version.0 (Some begun1.0) (words.begun ∙ begun1.1) starts1) (met_stands k.call at olds news))
-        node1 lane1.node primary_met (refused_job (last_job false n met) ∙ (words.job n ∙ runs_at b1.nodes b1.log row runs1 lane1)) (out_met part out) b
+        node1 lane1.node primary_met (refused_job cause (last_job false n met) ∙ (words.job n ∙ runs_at b1.nodes b1.log row runs1 lane1)) (out_met part out) b
         (λ a flies. (without_some at a (copy_in_flight n (newest_version (printed met)) (printed met)) flies).1))
 
   -- the files of the job that was stopped are those from before

@@ -1,5 +1,5 @@
 -- How far a line has come that copies or settles.
-use Rattle.std.proofs.Common.{◌≡◌, ◌≢◌, ◌≤◌, ◌<◌, ◌&&◌, ◌||◌, ◌==◌, ℕ, Bool, true, false, true≢false, [], ◌∷◌, Some, None, Option, max, refl, ap, ◌∙◌, sym, subst, if◌then◌else◌, arith, length}
+use Rattle.std.proofs.Common.{◌≡◌, ◌≢◌, ◌≤◌, ◌<◌, ◌&&◌, ◌||◌, ◌==◌, ℕ, Bool, true, false, true≢false, [], ◌∷◌, Some, None, Option, Ok, max, refl, ap, ◌∙◌, sym, subst, if◌then◌else◌, arith, length}
 use Rattle.std.specs.Prelude.{not, nat_lt, IfSome, IsSomeAnd}
 use Rattle.std.proofs.lemmas.Bool.{eqb-true, eq-eqb, ltb-false}
 use Rattle.nrt_base.specs.declared.numbers.At.{At}
@@ -23,7 +23,7 @@ use Rattle.history_tables.proofs.RowLemmas.{same_at_is}
 use Rattle.history_rules.specs.Rules.{StartedCopy, MayRefuseLine}
 use Rattle.history_rules.specs.Started.{is_copy, is_lost}
 use Rattle.history_rules.specs.declared.cause.Cause.{Cause}
-use Rattle.history_rules.specs.declared.cause.Cause.TheVariants.{Lost, Cancelled}
+use Rattle.history_rules.specs.declared.cause.Cause.TheVariants.{Lost, Cancelled, DiskFault}
 use Rattle.history_rules.proofs.NodeLemmas.{version_low}
 use Rattle.history_book.specs.Log.{Log, printed}
 use Rattle.history_book.proofs.OpenLaws.{last_started}
@@ -32,9 +32,13 @@ use Rattle.script_serving.specs.declared.script.LineCommand.TheVariants.{Copy}
 use Rattle.script_serving.specs.Refusals.{refusal}
 use Rattle.cluster_nodes.specs.declared.tasks.CopyTask.{CopyTask}
 use Rattle.cluster_nodes.specs.declared.tasks.FileTask.{FileTask}
-use Rattle.cluster_state.specs.Run.{Run}
+use Rattle.copy_job.specs.declared.copying.Part.{Part}
+use Rattle.link_model.specs.declared.fate.Fate.{Fate}
+use Rattle.cluster_state.specs.DueFaults.{ArrivesBy, fate_cause}
+use Rattle.cluster_state.specs.GivesUp.{met_log}
+use Rattle.cluster_state.specs.Run.{Run, files_at, IsNow}
 use Rattle.std.proofs.lemmas.Bool.Decides.{nat_tests}
-use Rattle.cluster_state.specs.Copies.{BeginsNoJob, IsCopying}
+use Rattle.cluster_state.specs.Copies.{BeginsNoJob, BringsFile, IsCopying, JobRefused}
 use Rattle.cluster_state.specs.declared.turn.Turn.{Turn}
 use Rattle.cluster_state.specs.declared.turn.Turn.TheVariants.{Work, Done, Busy}
 use Rattle.cluster_state.specs.Calls.{IsRefusedTurn}
@@ -319,10 +323,19 @@ module _ (row : JobRow) (old mid new : Run) (same : mid ≡ old) where
   runs_steps (Some log) b turn going stops goes = absurd (true≢false (sym stops.0 ∙ going))
   runs_steps None b turn going stops goes = subst (λ (x : Run). JobGoesOn row.job x new turn) same goes
 
-  -- it takes a part
-  pub runs_takes : (name : Name) (turn : Turn (Unit {0})) → JobTakes row.job name mid new turn → JobTakes row.job name old new turn
-  runs_takes name turn takes = subst (λ (x : Run). JobTakes row.job name x new turn) same takes
+  -- it takes a file
+  pub runs_takes : (file : FileTask) (turn : Turn (Unit {0})) → JobTakes row.job file mid new turn → JobTakes row.job file old new turn
+  runs_takes file turn takes = subst (λ (x : Run). JobTakes row.job file x new turn) same takes
 
-  pub runs_arrives : (name : Name) (o : Option Log) (b : Bool) (turn : Turn (Unit {0})) → b ≡ false → Stops o row old mid b → JobTakes row.job name mid new turn → PartArrives row.job name o old new turn
-  runs_arrives name (Some log) b turn going stops takes = absurd (true≢false (sym stops.0 ∙ going))
-  runs_arrives name None b turn going stops takes = runs_takes name turn takes
+  pub runs_arrives : (file : FileTask) (o : Option Log) (b : Bool) (turn : Turn (Unit {0})) → b ≡ false → Stops o row old mid b → JobTakes row.job file mid new turn → PartArrives row.job file o old new turn
+  runs_arrives file (Some log) b turn going stops takes = absurd (true≢false (sym stops.0 ∙ going))
+  runs_arrives file None b turn going stops takes = runs_takes file turn takes
+
+-- a part that came is taken, or the disk of its node failed
+pub part_taken : (row : JobRow) (old new : Run) (file : FileTask) (part : Part) → ArrivesBy file (Ok part) → IsNow old new (met_log row.job.at old new) → BringsFile part.name (files_at row.job.node.0 old) (files_at row.job.node.0 new)
+    → JobTakes row.job file old new (Work tt)
+part_taken row old new file part arrives now brings =
+    (arrives.0, now, subst (λ (q : Name). BringsFile q (files_at row.job.node.0 old) (files_at row.job.node.0 new)) arrives.1.name_is brings)
+
+pub part_fails : (row : JobRow) (old new : Run) (file : FileTask) (part : Part) → ArrivesBy file (Ok part) → JobRefused row.job DiskFault old new → JobTakes row.job file old new Done
+part_fails row old new file part arrives refused = subst (λ (f : Fate). JobRefused row.job (fate_cause f file.name) old new) (sym arrives.0) refused

@@ -1,5 +1,6 @@
 -- A file that is handed out to a job, in the terms of a call.
-use Rattle.std.proofs.Common.{◌≡◌, ◌==◌, ℕ, Bool, true, false, List, ◌∷◌, Some, Option, IfSome, Vec, Global, refl, ap, ◌∙◌, sym, subst, if◌then◌else◌}
+use Rattle.std.proofs.Common.{◌≡◌, ◌==◌, ℕ, Bool, true, false, List, ◌∷◌, Some, None, Option, IfSome, Vec, Global, refl, ap, ◌∙◌, sym, subst, if◌then◌else◌}
+use Rattle.std.specs.Prelude.{IsSomeAnd}
 use Rattle.std.proofs.lemmas.Bool.{eq-eqb, eqb-true}
 use Rattle.nrt_base.specs.declared.numbers.NodeNo.{NodeNo}
 use Rattle.disk_model.specs.Disk.{Name, Content, Cells}
@@ -11,10 +12,11 @@ use Rattle.replica_node.specs.Replica.{IsJobAbove}
 use Rattle.copy_state.specs.Meta.{IsMetaOf}
 use Rattle.index_primary.specs.declared.parts.PrimaryParts.{PrimaryParts}
 use Rattle.history_rules.specs.Nodes.{IsNode, IsReplica, is_at, primary_of}
+use Rattle.history_rules.specs.Points.{IsDrawnFile}
 use Rattle.history_tables.specs.declared.jobs.JobRow.{JobRow}
 use Rattle.history_book.specs.Log.{Log, printed, kept}
 use Rattle.merge_tasks.specs.Merging.{Sheet}
-use Rattle.link_model.specs.declared.fate.Fate.TheVariants.{Whole}
+use Rattle.link_model.specs.declared.fate.Fate.{Fate}
 use Rattle.history_book.specs.declared.inner.Inner.TheVariants.{FileOut}
 use Rattle.history_book.specs.Jobs.{job_at, LaneJobShows}
 use Rattle.cluster_nodes.specs.declared.held.HeldTicket.{HeldTicket}
@@ -34,7 +36,7 @@ use Rattle.cluster_state.proofs.Frames.{some_at, was, now_is, slot_of}
 use Rattle.cluster_state.proofs.FileFrames.{both_of, Both, files_was, files_is}
 use Rattle.cluster_state.proofs.FileJobs.{ReplicaHere, JobHere, primary_here, replica_here, job_here, job_out, runs_at}
 use Rattle.cluster_state.proofs.Naming.{FilesLast}
-use Rattle.cluster_copies.proofs.Handing.{has_job, next_is, IsFileToCopy, file_to_copy, file_footer, file_handed}
+use Rattle.cluster_copies.proofs.Handing.{has_job, next_is, IsFileToCopy, file_to_copy, file_drawn, file_footer, file_handed}
 
 module _ {D : Type 0} (cells : D → Cells) where
   -- the replica of a job that runs, with the job
@@ -148,17 +150,29 @@ module _ {D : Type 0} (cells : D → Cells) where
         file_footer cells call_files.source r.log row.job.node.0 t.here.at.parts.searchers.point.version.0 row.job t.job.point name meta bytes above t.job.shows
         (next_is places row.job.node.0 t.here.at.parts t.here.at.held t.job.point (Some (name, meta)) t.here.at.there t.job.going next) is fits
 
-    pub hand_path : (b1 b2 : Sheet) (new : List (Option (NodePlace D))) (p : NodeNo) (name : Name) (meta : FileMetaData) (bytes copy : List ℕ) → FilesLast → IsNode r.nodes p.0 → primary_of (printed r.log) ≡ Some p → HasNextFile (place_of places row.job.node.0) (Some (name, meta))
-        → ReadsIn cells p.0 name bytes places new → copy ≡ bytes → b1.log ≡ b0.log → b1.nodes ≡ b0.nodes → b2.log ≡ kept (FileOut row.job.at.line row.job.node row.job.number name copy Whole (Some row.job.at)) ∷ b1.log → b2.nodes ≡ b1.nodes
+    -- its name was drawn
+    pub hand_drawn : (name : Name) (meta : FileMetaData) → FilesLast → HasNextFile (place_of places row.job.node.0) (Some (name, meta)) → IsDrawnFile (printed r.log) name
+    hand_drawn name meta lasting next =
+        let t = runs_here r.log r.nodes places row call_shows call_files runs call_lane call_replica in
+        let above : IsJobAbove t.here.at.parts.searchers.point.version.0 t.job.point = subst (λ (o : Option PointJob). IfSome o (IsJobAbove t.here.at.parts.searchers.point.version.0)) t.job.runs t.here.shows.node_shows.whole.newer in
+        file_drawn cells call_files.source r.log row.job.node.0 t.here.at.parts.searchers.point.version.0 row.job t.job.point name meta lasting call_files.drawn above t.job.shows
+        (next_is places row.job.node.0 t.here.at.parts t.here.at.held t.job.point (Some (name, meta)) t.here.at.there t.job.going next)
+
+    pub named_drawn : (next : Option (Name × FileMetaData)) (name : Name) → FilesLast → HasNextFile (place_of places row.job.node.0) next → IsSomeAnd next (λ f. f.0 ≡ name) → IsDrawnFile (printed r.log) name
+    named_drawn None name lasting next is = absurd is
+    named_drawn (Some (q, meta)) name lasting next is = subst (λ (x : Name). IsDrawnFile (printed r.log) x) is (hand_drawn q meta lasting next)
+
+    pub hand_path : (b1 b2 : Sheet) (new : List (Option (NodePlace D))) (p : NodeNo) (name : Name) (meta : FileMetaData) (bytes copy : List ℕ) (fate : Fate) → FilesLast → IsNode r.nodes p.0 → primary_of (printed r.log) ≡ Some p → HasNextFile (place_of places row.job.node.0) (Some (name, meta))
+        → ReadsIn cells p.0 name bytes places new → copy ≡ bytes → b1.log ≡ b0.log → b1.nodes ≡ b0.nodes → b2.log ≡ kept (FileOut row.job.at.line row.job.node row.job.number name copy fate (Some row.job.at)) ∷ b1.log → b2.nodes ≡ b1.nodes
         → Shows cells b2.log b2.nodes new × FilesShow cells b2.log b2.nodes new
-    hand_path b1 b2 new p name meta bytes copy lasting node_p primary next b shared e1 n1 e2 n2 =
+    hand_path b1 b2 new p name meta bytes copy fate lasting node_p primary next b shared e1 n1 e2 n2 =
         let is = (read_facts r.log r.nodes places new row p name meta bytes call_shows call_files lasting runs call_lane call_replica node_p next b).0 in
         let t = runs_here r.log r.nodes places row call_shows call_files runs call_lane call_replica in
-        let both = file_handed cells r.nodes r.log places new p row.job.node row.job row.job.at.line name bytes call_files node_p primary call_replica.other t.is is b call_shows in
-        let log_now : b2.log ≡ kept (FileOut row.job.at.line row.job.node row.job.number name bytes Whole (Some row.job.at)) ∷ r.log
-        = e2 ∙ (ap (λ (x : List ℕ). kept (FileOut row.job.at.line row.job.node row.job.number name x Whole (Some row.job.at)) ∷ b1.log) shared
-        ∙ ap (λ (l : Log). kept (FileOut row.job.at.line row.job.node row.job.number name bytes Whole (Some row.job.at)) ∷ l) (e1 ∙ same_log)) in
+        let both = file_handed cells r.nodes r.log places new p row.job.node row.job row.job.at.line name bytes fate call_files node_p primary call_replica.other t.is is b call_shows in
+        let log_now : b2.log ≡ kept (FileOut row.job.at.line row.job.node row.job.number name bytes fate (Some row.job.at)) ∷ r.log
+        = e2 ∙ (ap (λ (x : List ℕ). kept (FileOut row.job.at.line row.job.node row.job.number name x fate (Some row.job.at)) ∷ b1.log) shared
+        ∙ ap (λ (l : Log). kept (FileOut row.job.at.line row.job.node row.job.number name bytes fate (Some row.job.at)) ∷ l) (e1 ∙ same_log)) in
         let size_now : b2.nodes ≡ r.nodes = n2 ∙ (n1 ∙ same_size) in (
-          now_is cells (kept (FileOut row.job.at.line row.job.node row.job.number name bytes Whole (Some row.job.at)) ∷ r.log) b2.log r.nodes b2.nodes new log_now size_now both.0,
-          files_is cells (kept (FileOut row.job.at.line row.job.node row.job.number name bytes Whole (Some row.job.at)) ∷ r.log) b2.log r.nodes b2.nodes new log_now size_now both.1,
+          now_is cells (kept (FileOut row.job.at.line row.job.node row.job.number name bytes fate (Some row.job.at)) ∷ r.log) b2.log r.nodes b2.nodes new log_now size_now both.0,
+          files_is cells (kept (FileOut row.job.at.line row.job.node row.job.number name bytes fate (Some row.job.at)) ∷ r.log) b2.log r.nodes b2.nodes new log_now size_now both.1,
         )

@@ -17,7 +17,7 @@ use Rattle.codec_frame.proofs.FrameLaws.{framed_footer}
 use Rattle.index_primary.specs.Held.{IsHeld}
 use Rattle.index_primary.specs.States.{IsFramedIn, out_of, is_out, state_names}
 use Rattle.index_primary.proofs.Framing.{held_framed}
-use Rattle.history_rules.specs.Points.{documents_at}
+use Rattle.history_rules.specs.Points.{documents_at, IsDrawnFile}
 use Rattle.copy_state.specs.States.{meta_names}
 use Rattle.commit_steps.proofs.Safe.{contains_of}
 use Rattle.searcher_switch.specs.Searching.{searcher_names}
@@ -37,7 +37,7 @@ use Rattle.history_tables.specs.declared.jobs.JobStep.TheVariants.{Passes}
 use Rattle.history_tables.specs.JobRows.{row_if_some, while_going}
 use Rattle.history_book.specs.Log.{Log, printed, kept}
 use Rattle.history_book.specs.declared.inner.Inner.{Inner}
-use Rattle.link_model.specs.declared.fate.Fate.TheVariants.{Whole}
+use Rattle.link_model.specs.declared.fate.Fate.{Fate}
 use Rattle.history_book.specs.declared.inner.Inner.TheVariants.{FileOut}
 use Rattle.history_book.specs.Jobs.{last_job, job_at}
 use Rattle.cluster_nodes.specs.declared.held.HeldTicket.{HeldTicket}
@@ -48,7 +48,7 @@ use Rattle.cluster_nodes.specs.Places.{place_of}
 use Rattle.cluster_state.specs.State.{NodeShows, Shows}
 use Rattle.cluster_state.specs.FilesOut.{is_job, file_out}
 use Rattle.cluster_nodes.specs.Outs.{want_of, jobs_like, states_like}
-use Rattle.cluster_state.specs.Files.{CopyShows, JobShows, IsJobFor, ReplicaFiles, PrimaryFiles, NodeFiles, FilesShow}
+use Rattle.cluster_state.specs.Files.{CopyShows, JobShows, IsJobFor, MeansDrawn, ReplicaFiles, PrimaryFiles, NodeFiles, FilesShow}
 use Rattle.cluster_nodes.specs.JobChanges.{HasJob, HasNextFile, IsNextFile}
 use Rattle.cluster_nodes.specs.JobPlaces.{ReadsIn}
 use Rattle.cluster_state.proofs.Disks.{commits_alone, disk_moved, disk_same, disks_kept}
@@ -60,7 +60,7 @@ use Rattle.cluster_nodes.proofs.OutCounts.{jobs_same, names_out}
 use Rattle.cluster_state.proofs.Wider.{primary_kept, meta_at_source}
 use Rattle.cluster_state.proofs.FileFrames.{names_one, one_each, both_of, Both, wants_same, replica_same}
 use Rattle.cluster_state.proofs.JobMoves.{shows_kept, shows_put, primary_place}
-use Rattle.cluster_state.proofs.Naming.{FilesLast, altered_steps}
+use Rattle.cluster_state.proofs.Naming.{FilesLast, altered_steps, wanted_drawn}
 use Rattle.cluster_state.proofs.Drawn.{grows_none}
 
 -- ---- metadata
@@ -129,12 +129,18 @@ module _ {D : Type 0} (cells : D → Cells) where
       same_bytes : (a : List ℕ) → Some a ≡ Some bytes → a ≡ bytes
       same_bytes a e = cc
 
+  -- its name was drawn
+  pub file_drawn : (source : Name → Content) (log : Log) (n v : ℕ) (job : Job) (j : PointJob) (q : Name) (meta : FileMetaData) → FilesLast → MeansDrawn source (printed log) → IsJobAbove v j → CopyShows source log n job j → IsNextFile j (Some (q, meta)) → IsDrawnFile (printed log) q
+  file_drawn source log n v job j q meta lasting drawn above shows next =
+      let wanted : 0 < times (meta_names j.copy.want.files) q = (let all = above.copy.each q in let lacks = first_counted j.copy.missing q (sym (ap (λ (l : List Name). slice_get l 0) next.1)) in omega (arith, all, lacks)) in
+      wanted_drawn cells source (printed log) v j lasting drawn shows.metas above q wanted
+
   -- ---- the entry
 
   -- the replica's job has a file more that was handed out
-  handed_replica : (source : Name → Content) (log : Log) (n : NodeNo) (job : Job) (r : ReplicaParts D) (line : LineNo) (name : Name) (bytes : List ℕ) → job_at n.0 log ≡ Some job → source name ≡ Some bytes → ReplicaFiles source cells log n.0 r
-      → ReplicaFiles source cells (kept (FileOut line n job.number name bytes Whole (Some job.at)) ∷ log) n.0 r
-  handed_replica source log n job r line name bytes is reads was = record {
+  handed_replica : (source : Name → Content) (log : Log) (n : NodeNo) (job : Job) (r : ReplicaParts D) (line : LineNo) (name : Name) (bytes : List ℕ) (fate : Fate) → job_at n.0 log ≡ Some job → source name ≡ Some bytes → ReplicaFiles source cells log n.0 r
+      → ReplicaFiles source cells (kept (FileOut line n job.number name bytes fate (Some job.at)) ∷ log) n.0 r
+  handed_replica source log n job r line name bytes fate is reads was = record {
     sourced = was.sourced;
     job = subst (λ (o : Option Job). JobShows source now n.0 o r.job) (sym same_job_at) (shows (job_at n.0 log) r.job is was.job);
     point = was.point;
@@ -142,7 +148,7 @@ module _ {D : Type 0} (cells : D → Cells) where
   }
     where
       now : Log
-      now = kept (FileOut line n job.number name bytes Whole (Some job.at)) ∷ log
+      now = kept (FileOut line n job.number name bytes fate (Some job.at)) ∷ log
 
       passed : (o : Option JobRow) → row_if_some Passes o ≡ o
       passed None = refl
@@ -180,10 +186,10 @@ module _ {D : Type 0} (cells : D → Cells) where
       shows (Some k) None e s = s
       shows (Some k) (Some j) e s = let same_job : job ≡ k = cc in subst (λ (x : Job). CopyShows source now n.0 x j) same_job (step j (subst (λ (x : Job). CopyShows source log n.0 x j) (sym same_job) s))
 
-  pub file_handed : (size : ℕ) (log : Log) (old new : List (Option (NodePlace D))) (p n : NodeNo) (job : Job) (line : LineNo) (name : Name) (bytes : List ℕ) (files : FilesShow cells log size old) → IsNode size p.0 → primary_of (printed log) ≡ Some p → is_at (primary_of (printed log)) n.0 ≡ false
+  pub file_handed : (size : ℕ) (log : Log) (old new : List (Option (NodePlace D))) (p n : NodeNo) (job : Job) (line : LineNo) (name : Name) (bytes : List ℕ) (fate : Fate) (files : FilesShow cells log size old) → IsNode size p.0 → primary_of (printed log) ≡ Some p → is_at (primary_of (printed log)) n.0 ≡ false
       → job_at n.0 log ≡ Some job → files.source name ≡ Some bytes → ReadsIn cells p.0 name bytes old new → Shows cells log size old
-      → Shows cells (kept (FileOut line n job.number name bytes Whole (Some job.at)) ∷ log) size new × FilesShow cells (kept (FileOut line n job.number name bytes Whole (Some job.at)) ∷ log) size new
-  file_handed size log old new p n job line name bytes files node primary other is reads b shows = (
+      → Shows cells (kept (FileOut line n job.number name bytes fate (Some job.at)) ∷ log) size new × FilesShow cells (kept (FileOut line n job.number name bytes fate (Some job.at)) ∷ log) size new
+  file_handed size log old new p n job line name bytes fate files node primary other is reads b shows = (
     shows_kept cells size log i new (λ a. refl) (shows_put cells size log old new p.0 x b.moves (primary_place cells log p.0 b.at.parts b.primary b.at.held b.alters at_p.0) shows),
     record {
       source = files.source;
@@ -200,7 +206,7 @@ module _ {D : Type 0} (cells : D → Cells) where
   )
     where
       i : Inner
-      i = FileOut line n job.number name bytes Whole (Some job.at)
+      i = FileOut line n job.number name bytes fate (Some job.at)
 
       now : Log
       now = kept i ∷ log
@@ -227,6 +233,6 @@ module _ {D : Type 0} (cells : D → Cells) where
           tests : (t : Bool) → (n.0 == m) ≡ t → ReplicaFiles files.source cells now m r
           tests true here =
               let e : n.0 ≡ m = eqb-true n.0 m here in
-              subst (λ (k : ℕ). ReplicaFiles files.source cells now k r) e (handed_replica files.source log n job r line name bytes is reads (subst (λ (k : ℕ). ReplicaFiles files.source cells log k r) (sym e) was))
+              subst (λ (k : ℕ). ReplicaFiles files.source cells now k r) e (handed_replica files.source log n job r line name bytes fate is reads (subst (λ (k : ℕ). ReplicaFiles files.source cells log k r) (sym e) was))
           tests false apart = replica_same cells files.source log now m r (same_inner log i m (ap not apart)) was
       other_node m (Down d) far node_shows was = tt

@@ -3,6 +3,7 @@ mod Calls
 mod CopiedNow
 mod CopyPaths
 pub mod CopyRows
+mod DueLines
 mod Ending
 mod Failing
 mod HandPaths

@@ -1,5 +1,5 @@
 -- What the words of a line and of a job are behind faults of disks, and the rule of a line that one of these refuses.
-use Rattle.std.proofs.Common.{◌≡◌, ◌≢◌, ◌≤◌, ◌<◌, ◌+◌, ◌==◌, ◌||◌, ◌&&◌, nat_lt, nat_le, ℕ, Bool, true, false, true≢false, List, [], ◌∷◌, ◌⊎◌, inr, Some, None, Option, refl, map, ap, ◌∙◌, sym, subst, arith}
+use Rattle.std.proofs.Common.{◌≡◌, ◌≢◌, ◌≤◌, ◌<◌, ◌==◌, ◌||◌, ◌&&◌, nat_lt, nat_le, ℕ, Bool, true, false, true≢false, List, [], ◌∷◌, ◌⊎◌, inr, Some, None, Option, refl, map, ap, ◌∙◌, sym, subst, arith}
 use Rattle.std.specs.Prelude.{not, ⊤}
 use Rattle.std.specs.List.{Contains}
 use Rattle.std.proofs.lemmas.List.Elements.{All-weaker}
@@ -9,7 +9,7 @@ use Rattle.nrt_base.specs.declared.numbers.At.{At}
 use Rattle.nrt_base.specs.declared.numbers.NodeNo.{NodeNo}
 use Rattle.nrt_base.specs.declared.numbers.Version.{Version}
 use Rattle.history_rules.specs.declared.cause.FaultKind.{FaultKind}
-use Rattle.history_rules.specs.declared.cause.FaultKind.TheVariants.{Disk, Stop}
+use Rattle.history_rules.specs.declared.cause.Cause.{Cause}
 use Rattle.history_rules.specs.declared.cause.Cause.TheVariants.{DiskFault}
 use Rattle.history_rules.specs.declared.entry.Event.{Event}
 use Rattle.history_rules.specs.declared.entry.Event.TheVariants.{Copying, Settling, Fault, Refused}
@@ -40,8 +40,8 @@ use Rattle.cluster_state.specs.Copies.{JobRuns, BeginsJob}
 use Rattle.cluster_state.specs.CopyCalls.{SettleWaits, IsNotBeingCopied, SettleGoesOn}
 use Rattle.cluster_state.specs.GivesUp.{met_log}
 use Rattle.cluster_state.specs.Settles.{IsLeft, IsSettling, WaitsFor}
-use Rattle.cluster_state.specs.Met.{fault_by, fault_on, fault_if, failures_by_plan, with_met, has_risen}
-use Rattle.cluster_state.proofs.Faulted.{met_has}
+use Rattle.cluster_state.specs.Met.{fault_by, failures_by_plan, with_met, has_risen}
+use Rattle.cluster_state.proofs.Faulted.{met_has, met_keeps}
 use Rattle.cluster_state.proofs.Planned.{met_there}
 use Rattle.cluster_state.proofs.MetFails.{fails_behind}
 use Rattle.cluster_state.proofs.Turning.{later_turn}
@@ -72,9 +72,8 @@ going_on : (n : ℕ) (past : Past) (at : At) (m : NodeNo) (kind : FaultKind) (o 
 going_on n past at m kind None = refl
 going_on n past at m kind (Some row) = refl
 
--- so they are behind faults of disks
-pub met_words : (at by : At) (olds news : List (ℕ × ℕ)) (log : Log) → SameWords at log (with_met false by 1 olds news log)
-met_words at by olds news log = met_has (SameWords at log) false by step 1 olds news log (record {
+pub same_words : (at : At) (log : Log) → SameWords at log log
+same_words at log = record {
   begun = refl;
   before = refl;
   answered = refl;
@@ -90,26 +89,31 @@ met_words at by olds news log = met_has (SameWords at log) false by step 1 olds 
   job = λ n. refl;
   last = λ lane. refl;
   file = λ n number q. refl;
-})
-  where
-    step : (n : ℕ) (kind : FaultKind) (l : Log) → SameWords at log l → SameWords at log (fault_by false by n kind ∷ l)
-    step n kind l is = record {
-      begun = is.begun;
-      before = is.before;
-      answered = is.answered;
-      line = both (same_at by at) (open_line at (printed l)) ∙ is.line;
-      switched = both (same_at by at) (highest_switched at (printed l)) ∙ is.switched;
-      primary = is.primary;
-      fallen = is.fallen;
-      generation = is.generation;
-      newest = is.newest;
-      running = is.running;
-      crashed = is.crashed;
-      version = is.version;
-      job = λ m. going_on m (printed l) by (record { 0 = n }) kind (last_job false m l) ∙ is.job m;
-      last = is.last;
-      file = is.file;
-    }
+}
+
+-- so they are behind one fault more
+pub fault_words : (at by : At) (log : Log) (n : ℕ) (kind : FaultKind) (l : Log) → SameWords at log l → SameWords at log (fault_by false by n kind ∷ l)
+fault_words at by log n kind l is = record {
+  begun = is.begun;
+  before = is.before;
+  answered = is.answered;
+  line = both (same_at by at) (open_line at (printed l)) ∙ is.line;
+  switched = both (same_at by at) (highest_switched at (printed l)) ∙ is.switched;
+  primary = is.primary;
+  fallen = is.fallen;
+  generation = is.generation;
+  newest = is.newest;
+  running = is.running;
+  crashed = is.crashed;
+  version = is.version;
+  job = λ m. going_on m (printed l) by (record { 0 = n }) kind (last_job false m l) ∙ is.job m;
+  last = is.last;
+  file = is.file;
+}
+
+-- so they are behind faults of disks
+pub met_words : (at by : At) (olds news : List (ℕ × ℕ)) (log : Log) → SameWords at log (with_met false by 1 olds news log)
+met_words at by olds news log = met_has (SameWords at log) false by (λ n kind l is. fault_words at by log n kind l is) 1 olds news log (same_words at log)
 
 -- ---- what rests on these
 
@@ -151,24 +155,12 @@ runs_still row log now w is = record {
   source = source_still row.job.at log now w is.source;
 }
 
--- ---- what holds behind a fault of a disk, of whatever kind
-
--- what does holds behind all that rose
-disk_has : (P : Log → Type 0) (at : At) → ((n : ℕ) (kind : FaultKind) (log : Log) → is_of_disk kind ≡ true → P log → P (fault_by false at n kind ∷ log)) → (n : ℕ) (olds news : List (ℕ × ℕ)) (log : Log) → P log → P (with_met false at n olds news log)
-disk_has P at step n [] news log was = was
-disk_has P at step n (o ∷ olds) [] log was = was
-disk_has P at step n (o ∷ olds) (w ∷ news) log was =
-    disk_has P at step (n + 1) olds news (fault_if false at n Stop o.1 w.1 (fault_if false at n Disk o.0 w.0 log))
-    (one (nat_lt o.1 w.1) Stop refl (fault_if false at n Disk o.0 w.0 log) (one (nat_lt o.0 w.0) Disk refl log was))
-  where
-    one : (b : Bool) (kind : FaultKind) → is_of_disk kind ≡ true → (log : Log) → P log → P (fault_on b false at n kind log)
-    one true kind disk log was = step n kind log disk was
-    one false kind disk log was = was
+-- ---- what holds behind faults of disks
 
 -- a line that met no fault in a file has met none
 pub whole_still : (size : ℕ) (at by : At) (olds news : List (ℕ × ℕ)) (log : Log) → IsLineWhole size (printed log) at → IsLineWhole size (printed (with_met false by 1 olds news log)) at
 whole_still size at by olds news log was =
-    disk_has (λ l. IsLineWhole size (printed l) at) by
+    met_keeps (λ l. IsLineWhole size (printed l) at) false by
     (λ m kind l disk is k node alive. or_from (((m == k) && not (is_of_disk kind)) && same_at by at) (has_file_fault k at (printed l)) (no_file (m == k) (is_of_disk kind) (same_at by at) disk) (is k node (record { node = alive.node })))
     1 olds news log was
   where
@@ -215,8 +207,11 @@ may_fail size past at begun m started lost switched mine met fails =
     })
 
 -- an open line is refused in its turn
+pub break_turn : (past : Past) (at : At) (cause : Cause) → open_line at past ≢ None → InTurn past at (Refused cause)
+break_turn past at cause line = later_turn past at (Refused cause) refl (inr line)
+
 pub fail_turn : (past : Past) (at : At) → open_line at past ≢ None → InTurn past at (Refused DiskFault)
-fail_turn past at line = later_turn past at (Refused DiskFault) refl (inr line)
+fail_turn past at line = break_turn past at DiskFault line
 
 -- the line started as a copy or a settle
 abbrev pub IsJobStart : Event → Type 0
@@ -234,7 +229,7 @@ pub record MeetsFault (size : ℕ) (past : Past) (at : At) (m : ℕ) : Type 0 wh
   pub mine : (is_node_of size (before_start at past) begun m || is_source_of (before_start at past) begun m) ≡ true
 
 -- the line is as lost as before
-lost_still : (at : At) (log now : Log) → SameWords at log now → (begun : Event) → is_lost (printed log) (before_start at (printed log)) begun ≡ false → IsJobStart begun → is_lost (printed now) (before_start at (printed now)) begun ≡ false
+pub lost_still : (at : At) (log now : Log) → SameWords at log now → (begun : Event) → is_lost (printed log) (before_start at (printed log)) begun ≡ false → IsJobStart begun → is_lost (printed now) (before_start at (printed now)) begun ≡ false
 lost_still at log now w (Copying n v) none starts = (λ i. not (w.crashed n.0 i == crashes n.0 (w.before i)) || not (w.fallen i == primary_crashes (w.before i))) ∙ none
 lost_still at log now w (Settling v) none starts = (λ i. not (w.fallen i == primary_crashes (w.before i))) ∙ none
 lost_still at log now w e none starts = absurd starts
@@ -271,13 +266,16 @@ module _ (size : ℕ) (past : Past) (at : At) (n v : ℕ) where
   at_source p (Settling w) starts source = or_right (is_node_of size (before_start at past) (Settling w) p.0) (is_at (primary_of (before_start at past)) p.0) (ap (λ (o : Option NodeNo). is_at o p.0) source ∙ eq-eqb p.0 p.0 refl)
   at_source p begun starts source = absurd starts
 
-  at_node : IsNode size n → (begun : Event) → StartsJob (before_start at past) n v (Some begun) → (is_node_of size (before_start at past) begun n || is_source_of (before_start at past) begun n) ≡ true
-  at_node node (Copying m w) starts = ap (λ (b : Bool). b || is_at (primary_of (before_start at past)) n) (eq-eqb m.0 n starts.0)
-  at_node node (Settling w) starts = rw (le_is 1 n node.0, le_is n size node.1, starts.running, starts.other) refl
+  pub at_here : IsNode size n → (begun : Event) → StartsJob (before_start at past) n v (Some begun) → is_node_of size (before_start at past) begun n ≡ true
+  at_here node (Copying m w) starts = eq-eqb m.0 n starts.0
+  at_here node (Settling w) starts = rw (le_is 1 n node.0, le_is n size node.1, starts.running, starts.other) refl
     where
       le_is : (a b : ℕ) → a ≤ b → nat_le a b ≡ true
       le_is a b low = grind (arith, nat_tests)
-  at_node node begun starts = absurd starts
+  at_here node begun starts = absurd starts
+
+  at_node : IsNode size n → (begun : Event) → StartsJob (before_start at past) n v (Some begun) → (is_node_of size (before_start at past) begun n || is_source_of (before_start at past) begun n) ≡ true
+  at_node node begun starts = ap (λ (b : Bool). b || is_source_of (before_start at past) begun n) (at_here node begun starts)
 
   module _ (legal : IsLegalPast size past) (begun : Event) (started : start_entry at past ≡ Some begun) (starts : StartsJob (before_start at past) n v (Some begun)) (line : open_line at past ≢ None) (ordered : highest_switched at past < n)
       (alive : NodeSurvives past at n) (source : SourceSurvives past at) where
@@ -297,16 +295,18 @@ cancel_still : (size : ℕ) (past : Past) (at by : At) (m : NodeNo) (kind : Faul
 cancel_still size past at by m kind v None is = is
 cancel_still size past at by m kind v (Some begun) is = record { point = is.point; above = is.above; beside = is.beside }
 
+pub lane_step : (size : ℕ) (row : JobRow) (by : At) (m : ℕ) (kind : FaultKind) (l : Log) → LaneJobShows size (printed l) row → LaneJobShows size (printed (fault_by false by m kind ∷ l)) row
+lane_step size row by m kind l is = record {
+  node = is.node;
+  started = is.started;
+  newest = is.newest;
+  before = is.before;
+  made = λ source high. is.made (record { source = source.source }) high;
+  later = λ v some alive source. cancel_still size (printed l) row.job.at by (record { 0 = m }) kind v (start_entry row.job.at (printed l)) (is.later v some (record { node = alive.node }) (record { source = source.source }));
+}
+
 pub lane_still : (size : ℕ) (row : JobRow) (by : At) (olds news : List (ℕ × ℕ)) (log : Log) → LaneJobShows size (printed log) row → LaneJobShows size (printed (with_met false by 1 olds news log)) row
-lane_still size row by olds news log was =
-    met_has (λ l. LaneJobShows size (printed l) row) false by (λ m kind l is. record {
-      node = is.node;
-      started = is.started;
-      newest = is.newest;
-      before = is.before;
-      made = λ source high. is.made (record { source = source.source }) high;
-      later = λ v some alive source. cancel_still size (printed l) row.job.at by (record { 0 = m }) kind v (start_entry row.job.at (printed l)) (is.later v some (record { node = alive.node }) (record { source = source.source }));
-    }) 1 olds news log was
+lane_still size row by olds news log was = met_has (λ l. LaneJobShows size (printed l) row) false by (λ m kind l is. lane_step size row by m kind l is) 1 olds news log was
 
 -- ---- settles
 

@@ -13,11 +13,9 @@ ghost use Rattle.cluster_state.specs.CopyCalls.{copying_log};
 ghost use Rattle.cluster_state.specs.GivesUp.{met_log};
 ghost use Rattle.cluster_state.specs.Settles.{WaitsFor};
 
-use crate::met::{
-    met_before, must_be_planned, must_have_risen, note_copying, note_failed, note_job,
-};
+use crate::met::{must_be_planned, must_have_risen, note_copying, note_failed, note_job};
 use cluster_nodes::{CopyTask, Went, begin_in, files_last};
-use cluster_state::ClusterState;
+use cluster_state::{ClusterState, met_before};
 use disk_model::FaultDir;
 use history_book::Inner;
 use history_rules::{Cause, Event};
@@ -169,7 +167,13 @@ pub fn begin_settling<D: FaultDir + Drop>(
         }
         Went::Failed => {
             must_have_risen(p, met, &cluster.places)?;
-            note_failed(&mut cluster.ledger, at, met, &cluster.places);
+            note_failed(
+                &mut cluster.ledger,
+                at,
+                Cause::DiskFault,
+                met,
+                &cluster.places,
+            );
             cluster.ended = false;
             Ok(Went::Failed)
         }

@@ -16,15 +16,16 @@ ghost use Rattle.script_serving.specs.declared.script.LineCommand.TheVariants.{C
 ghost use Rattle.script_serving.specs.Refusals.{refusal};
 ghost use Rattle.cluster_state.specs.Run.{IsEnded};
 ghost use Rattle.cluster_state.specs.Copies.{JobRuns};
+ghost use Rattle.cluster_state.specs.DueFaults.{MeetsFate, ArrivesBy};
 ghost use Rattle.cluster_state.specs.FilesOut.{file_out};
 ghost use Rattle.cluster_state.specs.Calls.{LineRefused};
 ghost use Rattle.cluster_state.specs.CopyCalls.{IsBeingCopied, IsNotBeingCopied, CopyStarts, CopyStartsWhen, IsSourceFor, IsOpenJob, standing_of, MayEnd, TellsEnd, stopped_log, Stops, RunsOn, JobGoesOn, JobSteps, JobTakes, PartArrives};
 
 use crate::copies::{begin_copy, note_copied};
-use crate::transfers::{go_on, starts_as_copy, take_part};
+use crate::transfers::{go_on, refuse_part, starts_as_copy, take_part};
 use cluster_nodes::{CopyTask, FileTask, Went};
 use cluster_state::{ClusterState, Standing, Turn, refuse_turn};
-use copy_job::Part;
+use copy_job::{JobFault, Part};
 use disk_model::FaultDir;
 use history_book::{Book, JobRow};
 use history_rules::{Cause, Event};
@@ -223,31 +224,42 @@ pub fn copy_next<D: FaultDir + Drop>(
     }
 }
 
-/// Puts a part into its job, or ends the job where it was stopped.
+/// Puts what arrived of a file into its job, or ends the job where it was stopped, and where not all of the file arrived.
 pub fn copy_arrived<D: FaultDir + Drop>(
     state: &mut ClusterState<D>,
     alloc: Global,
     row: JobRow,
-    part: Part,
+    file: &FileTask,
+    arrived: Result<Part, JobFault>,
 ) -> Result<Turn<()>, NoMemory>
     requires running { state.old.ended ≡ false }
     requires copies { IsOpenJob state.old.log row }
-    requires out { file_out row.job.at row.job.node.0 row.job.number part.name state.old.log
-        ≡ Some part.bytes }
-    requires meta { IsMetaOf part.bytes part.meta }
+    requires out { file_out row.job.at row.job.node.0 row.job.number file.now.name state.old.log
+        ≡ Some file.now.source }
+    requires meta { IsMetaOf file.now.source file.now.meta }
+    requires met { MeetsFate file.now.fate row.job.at row.job.node.0 (printed state.old.log) }
+    requires arrives { ArrivesBy file.now arrived }
     ensures ok { IfOk result (λ turn. (begun : Event)
         → start_entry row.job.at (printed state.old.log) ≡ Some begun
-        → PartArrives row.job part.name (stopped_log begun row state.old.log)
+        → PartArrives row.job file.now (stopped_log begun row state.old.log)
         state.old state.new turn) }
     ensures goes { IfOk result (λ turn. JobRuns state.old.log row
-        → JobTakes row.job part.name state.old state.new turn) }
+        → JobTakes row.job file.now state.old state.new turn) }
     ensures err { OnErr result (IsEnded state.old state.new) }
 {
     if is_stopped(state, row)? {
         return Ok(Turn::Done);
     }
-    match take_part(alloc, state, row, part)? {
-        Went::Done(()) => Ok(Turn::Work(())),
-        Went::Failed => Ok(Turn::Done),
+    match arrived {
+        Ok(part) => {
+            match take_part(alloc, state, row, part)? {
+                Went::Done(()) => Ok(Turn::Work(())),
+                Went::Failed => Ok(Turn::Done),
+            }
+        }
+        Err(fault) => {
+            refuse_part(alloc, state, row, file, fault)?;
+            Ok(Turn::Done)
+        }
     }
 }

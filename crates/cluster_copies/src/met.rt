@@ -1,54 +1,34 @@
 //! Faults of disks that copies meet, and the entries behind them.
 
-ghost use Rattle.std.specs.Prelude.{◌≡◌, ◌≢◌, ◌≤◌, ◌<◌, ◌+◌, ◌*◌, ◌∷◌, false, true, map, length, None, Some, IfOk, OnOk};
-ghost use Rattle.history_rules.specs.Nodes.{version_of, newest_version};
+ghost use Rattle.std.specs.Prelude.{◌≡◌, ◌≢◌, ◌≤◌, ◌<◌, ◌+◌, ◌*◌, ◌∷◌, ◌⊎◌, false, true, map, length, None, Some, Err, IsSomeAnd, OnOk};
+ghost use Rattle.history_rules.specs.Nodes.{IsNode, is_running, version_of, newest_version};
 ghost use Rattle.history_rules.specs.Lines.{start_entry, before_start, highest_switched, is_answered};
 ghost use Rattle.history_rules.specs.Commits.{is_passed};
-ghost use Rattle.history_rules.specs.Rules.{IsLineWhole};
+ghost use Rattle.history_rules.specs.Rules.{IsLineWhole, fetches_at};
 ghost use Rattle.history_rules.specs.Legal.{KeepsRule, IsLegalPast};
 ghost use Rattle.history_tables.specs.Begins.{open_line};
 ghost use Rattle.history_book.specs.Log.{printed, shown, kept};
 ghost use Rattle.history_book.specs.Turns.{InTurn, AreInTurn};
+ghost use Rattle.history_book.specs.Told.{IsSo};
 ghost use Rattle.history_book.specs.Jobs.{IsInside};
+ghost use Rattle.merge_tasks.specs.Fates.{fate_due};
 ghost use Rattle.cluster_state.specs.Copies.{JobRuns, ended_log};
+ghost use Rattle.cluster_state.specs.DueFaults.{ArrivesBy, fate_cause, with_due};
 ghost use Rattle.cluster_state.specs.Met.{ArePlanned, met_in, with_met, has_risen as has_risen_at};
 
-use crate::transfers::show_end;
+use crate::transfers::{must_be_whole, show_end};
 use bytes::Bytes;
-use cluster_nodes::NodePlace;
-use cluster_state::{are_planned, has_risen, kinds_in, show_met};
+use cluster_nodes::{FileTask, NodePlace};
+use cluster_state::{are_planned, comes_whole, has_risen, show_due, show_met};
+use copy_job::JobFault;
+use copy_state::FileMetaData;
 use disk_model::FaultDir;
 use file_names::FileName;
 use history_book::{Book, Fate, Inner, Job, JobRow};
 use history_rules::{Cause, Event};
 use merge_tasks::Ledger;
 use nrt_base::{At, NoMemory, NodeNo, Version};
-use std::alloc::{AllocError, Global};
-
-/// What each disk has met by its plans, with room for what a call meets more, and for so many entries behind that.
-pub(crate) fn met_before<D: FaultDir + Drop>(
-    alloc: Global,
-    ledger: &mut Ledger,
-    places: &Vec<Option<NodePlace<D>>>,
-    more: usize,
-) -> Result<Vec<(u64, u64)>, NoMemory>
-    requires { more ≤ 4 }
-    ensures met { IfOk result (λ met. met.items ≡ map (met_in D.planned) places.now.items) }
-    ensures few { IfOk result (λ met. length met.items ≤ 255) }
-    ensures room { IfOk result (λ met. 2 * length met.items + more ≤ ledger.new.room) }
-    ensures line { OnOk result (1 ≤ ledger.new.places) }
-    ensures jobs { OnOk result (1 ≤ ledger.new.jobs) }
-    ensures log { ledger.new.log ≡ ledger.old.log }
-    ensures nodes { ledger.new.nodes ≡ ledger.old.nodes }
-    ensures cut { ledger.new.cut ≡ ledger.old.cut }
-{
-    let met = kinds_in(alloc, places.as_slice())?;
-    if met.len() > u8::MAX as usize {
-        return Err(AllocError);
-    }
-    ledger.reserve(2 * met.len() + more)?;
-    Ok(met)
-}
+use std::alloc::AllocError;
 
 /// Appends the faults that were met, and the beginning of a line's job.
 pub(crate) fn note_job<D: FaultDir + Drop>(
@@ -127,10 +107,11 @@ pub(crate) fn note_copying<D: FaultDir + Drop>(
     ledger.show(at, Event::Copying { n, v });
 }
 
-/// Appends the faults that were met, one of which refuses the line.
+/// Appends the faults that were met, and that the line is refused.
 pub(crate) fn note_failed<D: FaultDir + Drop>(
     ledger: &mut Ledger,
     at: At,
+    cause: Cause,
     before: &[(u64, u64)],
     places: &Vec<Option<NodePlace<D>>>,
 )
@@ -142,10 +123,12 @@ pub(crate) fn note_failed<D: FaultDir + Drop>(
         (printed ledger.old.log) }
     requires unanswered { is_answered at (printed ledger.old.log) ≡ false }
     requires rule { KeepsRule ledger.old.nodes (printed (with_met false at 1 before.now
-        (map (met_in D.planned) places.now.items) ledger.old.log)) at (Event.Refused Cause.DiskFault) }
+        (map (met_in D.planned) places.now.items) ledger.old.log)) at (Event.Refused cause) }
     requires turn { InTurn (printed (with_met false at 1 before.now
-        (map (met_in D.planned) places.now.items) ledger.old.log)) at (Event.Refused Cause.DiskFault) }
-    ensures log { ledger.new.log ≡ shown at (Event.Refused Cause.DiskFault)
+        (map (met_in D.planned) places.now.items) ledger.old.log)) at (Event.Refused cause) }
+    requires told { IsSo (with_met false at 1 before.now (map (met_in D.planned) places.now.items)
+        ledger.old.log) at (Event.Refused cause) }
+    ensures log { ledger.new.log ≡ shown at (Event.Refused cause)
         ∷ with_met false at 1 before.now (map (met_in D.planned) places.now.items) ledger.old.log }
     ensures nodes { ledger.new.nodes ≡ ledger.old.nodes }
     ensures cut { ledger.new.cut ≡ ledger.old.cut }
@@ -156,7 +139,6 @@ pub(crate) fn note_failed<D: FaultDir + Drop>(
         (map (met_in D.planned) places.now.items) ledger.old.log)) }
 {
     show_met(ledger, at, before, places);
-    let cause = Cause::DiskFault;
     ledger.show(at, Event::Refused { cause });
 }
 
@@ -226,10 +208,11 @@ pub(crate) fn note_ended<D: FaultDir + Drop>(
     show_end(ledger, row);
 }
 
-/// Appends the faults that were met, one of which refuses the line of a job, and that the job has ended.
+/// Appends the faults that were met, that the line of a job is refused, and that the job has ended.
 pub(crate) fn note_refused<D: FaultDir + Drop>(
     ledger: &mut Ledger,
     row: JobRow,
+    cause: Cause,
     before: &[(u64, u64)],
     places: &Vec<Option<NodePlace<D>>>,
 )
@@ -242,12 +225,14 @@ pub(crate) fn note_refused<D: FaultDir + Drop>(
     requires unanswered { is_answered row.job.at (printed ledger.old.log) ≡ false }
     requires rule { KeepsRule ledger.old.nodes (printed (with_met false row.job.at 1 before.now
         (map (met_in D.planned) places.now.items) ledger.old.log)) row.job.at
-        (Event.Refused Cause.DiskFault) }
+        (Event.Refused cause) }
     requires turn { InTurn (printed (with_met false row.job.at 1 before.now
         (map (met_in D.planned) places.now.items) ledger.old.log)) row.job.at
-        (Event.Refused Cause.DiskFault) }
+        (Event.Refused cause) }
+    requires told { IsSo (with_met false row.job.at 1 before.now (map (met_in D.planned)
+        places.now.items) ledger.old.log) row.job.at (Event.Refused cause) }
     ensures log { ledger.new.log ≡ kept (Inner.JobEnd row.job.at.line row.job.node row.job.number)
-        ∷ shown row.job.at (Event.Refused Cause.DiskFault) ∷ with_met false row.job.at 1 before.now
+        ∷ shown row.job.at (Event.Refused cause) ∷ with_met false row.job.at 1 before.now
         (map (met_in D.planned) places.now.items) ledger.old.log }
     ensures nodes { ledger.new.nodes ≡ ledger.old.nodes }
     ensures cut { ledger.new.cut ≡ ledger.old.cut }
@@ -262,7 +247,7 @@ pub(crate) fn note_refused<D: FaultDir + Drop>(
         number: job,
         ..
     } = row.job;
-    note_failed(ledger, at, before, places);
+    note_failed(ledger, at, cause, before, places);
     ledger.keep(Inner::JobEnd {
         line: at.line,
         node,
@@ -270,7 +255,54 @@ pub(crate) fn note_refused<D: FaultDir + Drop>(
     });
 }
 
-/// Appends the faults that were met, and that a file was handed out to a job.
+/// Why a line is refused for what arrived of a file, which is not all of it.
+pub(crate) fn cause_of(file: &FileTask, fault: JobFault) -> Cause
+    requires { ArrivesBy file.now (Err fault) }
+    ensures { result ≡ fate_cause file.now.fate file.now.name }
+{
+    match fault {
+        JobFault::LinkFailed => Cause::LinkFault,
+        JobFault::Damaged { .. } => Cause::Damaged(file.name),
+        JobFault::Memory => unreachable!(),
+        JobFault::DirFailed => unreachable!(),
+        JobFault::NameClash { .. } => unreachable!(),
+    }
+}
+
+/// The file is the one that a job lacks next. It is where its lane waits for each file.
+pub(crate) fn must_be_next(
+    next: Option<(FileName, FileMetaData)>,
+    name: &FileName,
+) -> Result<(), NoMemory>
+    ensures { OnOk result (IsSomeAnd next (λ f. f.0 ≡ name.now)) }
+{
+    match next {
+        None => Err(AllocError),
+        Some(first) => {
+            if first.0 == *name {
+                Ok(())
+            } else {
+                Err(AllocError)
+            }
+        }
+    }
+}
+
+/// A file in which a fault is due is handed out to a line that has met none in a file. A line that has met one has its reply at once.
+pub(crate) fn must_be_spared(ledger: &Ledger, row: JobRow) -> Result<(), NoMemory>
+    requires node { IsNode ledger.now.nodes row.job.node.0 }
+    requires line { open_line row.job.at (printed ledger.now.log) ≢ None }
+    ensures { OnOk result ((fate_due row.job.node.0 ledger.now.log ≡ Fate.Whole)
+        ⊎ IsLineWhole ledger.now.nodes (printed ledger.now.log) row.job.at) }
+{
+    if comes_whole(ledger, row.job.node) {
+        return Ok(());
+    }
+    must_be_whole(ledger.book(), row.job.at)?;
+    Ok(())
+}
+
+/// Appends the faults that were met, and that a file was handed out to a job, behind the faults that this meets. What becomes of it.
 pub(crate) fn note_file<D: FaultDir + Drop>(
     ledger: &mut Ledger,
     row: JobRow,
@@ -278,17 +310,23 @@ pub(crate) fn note_file<D: FaultDir + Drop>(
     source: Bytes,
     before: &[(u64, u64)],
     places: &Vec<Option<NodePlace<D>>>,
-)
-    requires room { 2 * length before.now + 1 ≤ ledger.old.room }
+) -> Fate
+    requires room { 2 * length before.now + 3 ≤ ledger.old.room }
     requires count { length before.now ≡ ledger.old.nodes }
     requires places { length places.now.items ≡ ledger.old.nodes }
     requires few { length before.now ≤ 255 }
     requires planned { ArePlanned 1 before.now (map (met_in D.planned) places.now.items)
         (printed ledger.old.log) }
     requires unanswered { is_answered row.job.at (printed ledger.old.log) ≡ false }
+    requires node { IsNode ledger.old.nodes row.job.node.0 }
+    requires fetched { fetches_at ledger.old.nodes row.job.at (printed (with_met false row.job.at 1
+        before.now (map (met_in D.planned) places.now.items) ledger.old.log)) row.job.node.0 ≡ true }
+    requires alive { is_running row.job.node.0 (printed ledger.old.log) ≡ true }
+    ensures fate { result ≡ fate_due row.job.node.0 (with_met false row.job.at 1 before.now
+        (map (met_in D.planned) places.now.items) ledger.old.log) }
     ensures log { ledger.new.log ≡ kept (Inner.FileOut row.job.at.line row.job.node row.job.number
-        name source Fate.Whole (Some row.job.at)) ∷ with_met false row.job.at 1 before.now
-        (map (met_in D.planned) places.now.items) ledger.old.log }
+        name source result (Some row.job.at)) ∷ with_due false row.job.at row.job.node.0 (with_met
+        false row.job.at 1 before.now (map (met_in D.planned) places.now.items) ledger.old.log) }
     ensures nodes { ledger.new.nodes ≡ ledger.old.nodes }
     ensures cut { ledger.new.cut ≡ ledger.old.cut }
 {
@@ -299,13 +337,15 @@ pub(crate) fn note_file<D: FaultDir + Drop>(
         ..
     } = row.job;
     show_met(ledger, at, before, places);
+    let fate = show_due(ledger, false, at, node);
     ledger.keep(Inner::FileOut {
         line: at.line,
         node,
         job,
         name,
         source,
-        fate: Fate::Whole,
+        fate,
         by: Some(at),
     });
+    fate
 }

@@ -1,6 +1,6 @@
 //! Jobs that copy the primary's newest point to replicas: how they go on, file by file, and end.
 
-ghost use Rattle.std.specs.Prelude.{◌≡◌, ◌≢◌, ◌≤◌, ◌<◌, false, None, Some, OnOk, OnErr, IfOk, ⊤};
+ghost use Rattle.std.specs.Prelude.{◌≡◌, ◌≢◌, ◌≤◌, ◌<◌, false, None, Some, Err, OnOk, OnErr, IfOk, ⊤};
 ghost use Rattle.copy_state.specs.Meta.{IsMetaOf};
 ghost use Rattle.history_rules.specs.Nodes.{version_of, newest_version, IsNode, primary_of};
 ghost use Rattle.history_rules.specs.Lines.{start_entry, before_start, highest_switched};
@@ -12,16 +12,19 @@ ghost use Rattle.cluster_nodes.specs.Went.{ByWent};
 ghost use Rattle.cluster_state.specs.Copies.{is_copy_start, BringsFile, JobRuns, JobRefused, ended_log, GoesOn};
 ghost use Rattle.cluster_state.specs.GivesUp.{met_log};
 ghost use Rattle.cluster_state.specs.Run.{files_at, IsNow, IsEnded};
+ghost use Rattle.cluster_state.specs.DueFaults.{MeetsFate, ArrivesBy, fate_cause};
 ghost use Rattle.cluster_state.specs.FilesOut.{file_out};
 
 use crate::met::{
-    met_before, must_be_planned, must_have_risen, note_ended, note_file, note_refused,
+    cause_of, must_be_next, must_be_planned, must_be_spared, must_have_risen, note_ended,
+    note_file, note_refused,
 };
 use cluster_nodes::{
-    FileTask, Went, files_last, finish_in, next_in, read_for_in, sourced_stands, take_in,
+    FileTask, Went, files_last, finish_in, next_in, read_for_in, sourced_stands, stop_job_in,
+    take_in,
 };
-use cluster_state::{ClusterState, are_bytes, show_met};
-use copy_job::Part;
+use cluster_state::{ClusterState, are_bytes, met_before, show_met};
+use copy_job::{JobFault, Part};
 use disk_model::FaultDir;
 use history_book::{Book, Inner, Job, JobRow, Start};
 use history_rules::{Cause, Event};
@@ -84,7 +87,7 @@ pub(crate) fn show_end(ledger: &mut Ledger, row: JobRow)
 }
 
 // An open line met no fault in a file. It never did so where its lane waits for each file, as the next one is not handed out then.
-fn must_be_whole(book: &Book, at: At) -> Result<(), NoMemory>
+pub(crate) fn must_be_whole(book: &Book, at: At) -> Result<(), NoMemory>
     requires { open_line at (printed book.now.log) ≢ None }
     ensures { OnOk result (IsLineWhole book.now.nodes (printed book.now.log) at) }
 {
@@ -152,7 +155,13 @@ pub fn go_on<D: FaultDir + Drop>(
                 }
                 Went::Failed => {
                     must_have_risen(n, met, &cluster.places)?;
-                    note_refused(&mut cluster.ledger, row, met, &cluster.places);
+                    note_refused(
+                        &mut cluster.ledger,
+                        row,
+                        Cause::DiskFault,
+                        met,
+                        &cluster.places,
+                    );
                     cluster.ended = false;
                     Ok(Went::Failed)
                 }
@@ -166,17 +175,32 @@ pub fn go_on<D: FaultDir + Drop>(
                 Went::Done(source) => {
                     are_bytes(source.as_slice());
                     let copy = source.share(alloc)?;
-                    note_file(&mut cluster.ledger, row, name, copy, met, &cluster.places);
+                    must_be_spared(&cluster.ledger, row)?;
+                    let fate = note_file(
+                        &mut cluster.ledger,
+                        row,
+                        name,
+                        copy,
+                        met,
+                        &cluster.places,
+                    );
                     cluster.ended = false;
                     Ok(Went::Done(Some(FileTask {
                         name,
                         source,
                         meta: file.1,
+                        fate,
                     })))
                 }
                 Went::Failed => {
                     must_have_risen(p, met, &cluster.places)?;
-                    note_refused(&mut cluster.ledger, row, met, &cluster.places);
+                    note_refused(
+                        &mut cluster.ledger,
+                        row,
+                        Cause::DiskFault,
+                        met,
+                        &cluster.places,
+                    );
                     cluster.ended = false;
                     Ok(Went::Failed)
                 }
@@ -228,9 +252,54 @@ pub fn take_part<D: FaultDir + Drop>(
         }
         Went::Failed => {
             must_have_risen(n, met, &cluster.places)?;
-            note_refused(&mut cluster.ledger, row, met, &cluster.places);
+            note_refused(
+                &mut cluster.ledger,
+                row,
+                Cause::DiskFault,
+                met,
+                &cluster.places,
+            );
             cluster.ended = false;
             Ok(Went::Failed)
         }
     }
+}
+
+/// Refuses the line of a job that runs for what arrived of a file, which is not all of it, and stops the job.
+pub fn refuse_part<D: FaultDir + Drop>(
+    alloc: Global,
+    cluster: &mut ClusterState<D>,
+    row: JobRow,
+    file: &FileTask,
+    fault: JobFault,
+) -> Result<(), NoMemory>
+    requires running { cluster.old.ended ≡ false }
+    requires runs { JobRuns cluster.old.log row }
+    requires line { open_line row.job.at (printed cluster.old.log) ≢ None }
+    requires ordered { highest_switched row.job.at (printed cluster.old.log) < row.job.node.0 }
+    requires met { MeetsFate file.now.fate row.job.at row.job.node.0 (printed cluster.old.log) }
+    requires arrives { ArrivesBy file.now (Err fault) }
+    ensures ok { OnOk result (JobRefused row.job (fate_cause file.now.fate file.now.name)
+        cluster.old cluster.new) }
+    ensures err { OnErr result (IsEnded cluster.old cluster.new) }
+{
+    let book = cluster.ledger.book();
+    book.is_legal();
+    book.job_shows(row);
+    book.job_replica(row);
+    book.is_unanswered(row.job.at);
+    files_last();
+    let p = source_of(cluster, row);
+    let n = row.job.node;
+    cluster.ended = true;
+    let before = met_before(alloc, &mut cluster.ledger, &cluster.places, 2)?;
+    let met = before.as_slice();
+    let next = next_in(alloc, &cluster.places, n)?;
+    must_be_next(next, &file.name)?;
+    stop_job_in(alloc, &mut cluster.places, p, n)?;
+    must_be_planned(cluster.ledger.book(), met, &cluster.places)?;
+    let cause = cause_of(file, fault);
+    note_refused(&mut cluster.ledger, row, cause, met, &cluster.places);
+    cluster.ended = false;
+    Ok(())
 }

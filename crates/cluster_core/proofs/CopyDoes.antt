@@ -23,7 +23,8 @@ use Rattle.history_book.specs.Laws.{IsFresh}
 use Rattle.history_book.specs.Log.{Log, printed, shown, kept}
 use Rattle.history_book.specs.Jobs.{StartsJob}
 use Rattle.history_book.specs.Turns.{AreInTurn}
-use Rattle.link_model.specs.declared.fate.Fate.TheVariants.{Whole}
+use Rattle.link_model.specs.declared.fate.Fate.{Fate}
+use Rattle.link_model.specs.declared.fate.Fate.TheVariants.{Whole, Fail, Damage}
 use Rattle.history_book.specs.declared.inner.Inner.TheVariants.{JobBegun, FileOut, JobEnd}
 use Rattle.history_book.proofs.FreshLaws.{open_unanswered}
 use Rattle.script_serving.specs.declared.script.LineCommand.{LineCommand}
@@ -32,6 +33,7 @@ use Rattle.script_serving.specs.Refusals.{refusal, is_copy_cause}
 use Rattle.script_serving.specs.Serves.{First, Follows, Suits}
 use Rattle.cluster_state.specs.Given.{CopyTask, FileTask, SettleTask}
 use Rattle.cluster_state.specs.Run.{Run, IsNow}
+use Rattle.cluster_state.specs.DueFaults.{fate_cause, with_due}
 use Rattle.cluster_state.specs.GivesUp.{met_log}
 use Rattle.cluster_state.specs.Copies.{newest_of, GoesOn, JobRefused, ended_log}
 use Rattle.cluster_state.specs.Settles.{IsSettling}
@@ -43,7 +45,7 @@ use Rattle.lane_threads.specs.Owes.{SuitsOrFault}
 use Rattle.cluster_core.specs.Doing.{Does, IsReplied, IsRepliedAtDone, IsBegunAtWork}
 use Rattle.cluster_state.specs.CopyCalls.{CopiesFor, copying_log, CopyEnds, CopyAnswered, CopyStarts, CopyStartsWhen, is_node_lost, overtaken, standing_of, log_after, IsOpenJob, stopped_log, JobSteps, PartArrives, SettleStarts, settle_end_event, SettleGoesOn}
 use Rattle.cluster_core.proofs.Does.{does_was, runs_in, one_does, none_does, first_suits, refused_does, one_replied, lost_reply, refused_for_does, refused_for_replied, begun_by}
-use Rattle.cluster_core.proofs.MetDoes.{Meets, meets_none, met_here, behind_does, one_behind, none_behind, first_behind, later_behind, begun_behind, top_replied}
+use Rattle.cluster_core.proofs.MetDoes.{Meets, meets_none, met_here, behind_does, one_behind, none_behind, first_behind, later_behind, begun_behind, top_replied, meets_over_due}
 use Rattle.cluster_copies.proofs.CopyRows.{copy_newest, started_newest}
 
 -- ---- copy starts
@@ -180,7 +182,8 @@ module _ (job : Job) (later : Option Version) (size : ℕ) (old new : Run) (begu
 
   handed_does : (command : LineCommand) (file : FileTask) → GoesOn job old new (Some file) → Does command job.at old new
   handed_does command file goes =
-      behind_does command job.at old new (kept (FileOut job.at.line job.node job.number file.name file.source Whole (Some job.at)) ∷ []) met (meets command) goes.now (inl refl, tt)
+      behind_does command job.at old new (kept (FileOut job.at.line job.node job.number file.name file.source file.fate (Some job.at)) ∷ []) (with_due false job.at job.node.0 met)
+      (meets_over_due false command job.at old.log job.node.0 met (meets command)) goes.now (inl refl, tt)
 
   -- the line was refused, and the job has ended
   failed_does : (command : LineCommand) (cause : Cause) → CopiesFor command (Some begun) → is_copy_cause cause ≡ true → JobRefused job cause old new → Does command job.at old new
@@ -227,18 +230,24 @@ goes_does command row size old new begun turn legal turns start line high starts
     by None is Done (inr refused) = failed_does row.job row.later size old new begun legal turns start line command DiskFault copies refl refused
     by None is Busy goes = absurd goes
 
-pub arrives_does : (command : LineCommand) (row : JobRow) (name : Name) (size : ℕ) (old new : Run) (begun : Event) (turn : Turn (Unit {0})) → IsLegalPast size (printed old.log) → AreInTurn (printed old.log)
+-- where a file does not come in, its line is refused for a cause of copies
+late_fate : (fate : Fate) (name : Name) → is_copy_cause (fate_cause fate name) ≡ true
+late_fate Whole name = refl
+late_fate Fail name = refl
+late_fate (Damage byte) name = refl
+
+pub arrives_does : (command : LineCommand) (row : JobRow) (file : FileTask) (size : ℕ) (old new : Run) (begun : Event) (turn : Turn (Unit {0})) → IsLegalPast size (printed old.log) → AreInTurn (printed old.log)
     → start_entry row.job.at (printed old.log) ≡ Some begun → open_line row.job.at (printed old.log) ≢ None → CopiesFor command (Some begun)
-    → PartArrives row.job name (stopped_log begun row old.log) old new turn → Does command row.job.at old new
-arrives_does command row name size old new begun turn legal turns start line copies arrives = by (stopped_log begun row old.log) refl turn arrives
+    → PartArrives row.job file (stopped_log begun row old.log) old new turn → Does command row.job.at old new
+arrives_does command row file size old new begun turn legal turns start line copies arrives = by (stopped_log begun row old.log) refl turn arrives
   where
-    by : (o : Option Log) → stopped_log begun row old.log ≡ o → (turn : Turn (Unit {0})) → PartArrives row.job name o old new turn → Does command row.job.at old new
+    by : (o : Option Log) → stopped_log begun row old.log ≡ o → (turn : Turn (Unit {0})) → PartArrives row.job file o old new turn → Does command row.job.at old new
     by (Some log) is turn arrives =
         stops_does row.job row.later size old new begun legal turns start line command (standing_of begun row (printed old.log)) log copies
         (late_standing (is_lost (printed old.log) (before_start row.job.at (printed old.log)) begun) (is_node_lost (printed old.log) row.job) row.later) is arrives.1
     by None is (Work done) arrives =
-        none_behind command row.job.at old new (met_log row.job.at old new) (meets row.job row.later size old new begun legal turns start line command) arrives.0
-    by None is Done arrives = failed_does row.job row.later size old new begun legal turns start line command DiskFault copies refl arrives
+        none_behind command row.job.at old new (met_log row.job.at old new) (meets row.job row.later size old new begun legal turns start line command) arrives.1
+    by None is Done arrives = failed_does row.job row.later size old new begun legal turns start line command (fate_cause file.fate file.name) copies (late_fate file.fate file.name) arrives
     by None is Busy arrives = absurd arrives
 
 -- ---- settles
@@ -316,12 +325,12 @@ next_done command at row size s r new l (Ok turn) view same at_is job legal turn
     by None is starts copies = absurd starts
     by (Some begun) is starts copies = goes_does command row size s new begun turn legal turns is job.is_open job.ordered starts copies (ok begun is)
 
-pub arrived_done : (command : LineCommand) (at : At) (row : JobRow) (name : Name) (size : ℕ) (s r new : Run) (result : Result (Turn (Unit {0})) AllocError) → s ≡ r → row.job.at ≡ at → IsOpenJob s.log row
+pub arrived_done : (command : LineCommand) (at : At) (row : JobRow) (file : FileTask) (size : ℕ) (s r new : Run) (result : Result (Turn (Unit {0})) AllocError) → s ≡ r → row.job.at ≡ at → IsOpenJob s.log row
     → IsLegalPast size (printed s.log) → AreInTurn (printed s.log)
-    → IfOk result (λ turn. (begun : Event) → start_entry row.job.at (printed s.log) ≡ Some begun → PartArrives row.job name (stopped_log begun row s.log) s new turn)
+    → IfOk result (λ turn. (begun : Event) → start_entry row.job.at (printed s.log) ≡ Some begun → PartArrives row.job file (stopped_log begun row s.log) s new turn)
     → CopiesFor command (start_entry at (printed r.log)) → OnOk result (Does command at r new)
-arrived_done command at row name size s r new (Err e) view at_is job legal turns ok copies = tt
-arrived_done command at row name size s r new (Ok turn) view at_is job legal turns ok copies =
+arrived_done command at row file size s r new (Err e) view at_is job legal turns ok copies = tt
+arrived_done command at row file size s r new (Ok turn) view at_is job legal turns ok copies =
     does_was command at s r new view (subst (λ (a : At). Does command a s new) at_is
     (by (start_entry row.job.at (printed s.log)) refl (subst (λ (x : Run × At). CopiesFor command (start_entry x.1 (printed x.0.log))) (λ i. (sym view i, sym at_is i)) copies)))
   where
@@ -332,7 +341,7 @@ arrived_done command at row name size s r new (Ok turn) view at_is job legal tur
 
     by : (o : Option Event) → start_entry row.job.at (printed s.log) ≡ o → CopiesFor command o → Does command row.job.at s new
     by None is copies = absurd (uncopied command copies)
-    by (Some begun) is copies = arrives_does command row name size s new begun turn legal turns is job.is_open copies (ok begun is)
+    by (Some begun) is copies = arrives_does command row file size s new begun turn legal turns is job.is_open copies (ok begun is)
 
 pub settle_done : (at : At) (size : ℕ) (old left : SettleTask) (s r new : Run) (result : Result (Turn CopyTask) AllocError) → s ≡ r → r.ended ≡ false → IsSettling r.nodes (printed r.log) at old
     → IsLegalPast size (printed s.log) → AreInTurn (printed s.log) → IfOk result (SettleGoesOn at s new left) → OnOk result (Does Settle at r new)

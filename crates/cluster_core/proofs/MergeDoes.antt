@@ -15,7 +15,8 @@ use Rattle.history_rules.specs.Lines.{same_at, is_answered}
 use Rattle.history_tables.proofs.RowLemmas.{same_at_self}
 use Rattle.history_book.specs.Laws.{IsFresh}
 use Rattle.history_book.specs.Log.{Log, printed, shown, kept, name_by, name_inside, FollowsMerging, FaultsFollow}
-use Rattle.link_model.specs.declared.fate.Fate.TheVariants.{Whole}
+use Rattle.link_model.specs.declared.fate.Fate.{Fate}
+use Rattle.link_model.specs.declared.fate.Fate.TheVariants.{Whole, Fail, Damage}
 use Rattle.history_book.specs.declared.inner.Inner.TheVariants.{MergeOut, MergeEnd, JobBegun, FileOut, TaskOut, TaskEnd}
 use Rattle.history_book.specs.declared.inner.Inner.{Inner}
 use Rattle.history_book.specs.declared.inner.Step.{Step}
@@ -30,12 +31,14 @@ use Rattle.merge_tasks.specs.Board.{step_of}
 use Rattle.cluster_state.specs.Given.{FileTask}
 use Rattle.cluster_state.specs.Run.{Run, IsNow}
 use Rattle.cluster_state.specs.Met.{failures_by_plan, fault_by}
+use Rattle.cluster_state.specs.DueFaults.{with_due}
 use Rattle.cluster_state.specs.GivesUp.{task_met_log}
 use Rattle.cluster_state.proofs.Faulted.{met_has}
+use Rattle.cluster_state.proofs.FilesDue.{due_has}
 use Rattle.cluster_merges.specs.MergePaths.{IsAsBefore, TakesTask, EndsBuild, EndsMerge, EndsCopyTask, begun_log}
 use Rattle.cluster_state.specs.declared.turn.Turn.{Turn}
 use Rattle.cluster_state.specs.declared.turn.Turn.TheVariants.{Work, Done, Busy}
-use Rattle.cluster_merges.specs.TaskCalls.{RefusesMerge, StartsOrRefuses, MergeLine, EndsCopyOnce, PrecopyTurns, PartEnds, PartTurns, CutsOnce, CutTurns, DrainTurns}
+use Rattle.cluster_merges.specs.TaskCalls.{RefusesMerge, StartsOrRefuses, MergeLine, EndsCopyOnce, PrecopyTurns, LosesCopy, PartEnds, PartTurns, CutsOnce, CutTurns, DrainTurns}
 use Rattle.lane_threads.specs.Owes.{AddsByTask}
 use Rattle.lane_threads.proofs.WalkLemmas.{lane_self}
 use Rattle.cluster_core.specs.Doing.{Does, IsReplied, IsRepliedAtDone}
@@ -141,6 +144,10 @@ task_met : (seat : ℕ) (at : At) (old new : Run) → TaskMeets seat old.log (ta
 task_met seat at old new =
     met_has (TaskMeets seat old.log) true at (λ n kind log m. task_fault seat old.log at n kind log m) 1 (map failures_by_plan old.rest.plans) (map failures_by_plan new.rest.plans) old.log (record { more = []; log_is = refl; adds = λ follow. tt })
 
+-- those that a file meets
+task_due : (seat : ℕ) (base : Log) (at : At) (n : ℕ) (log : Log) → TaskMeets seat base log → TaskMeets seat base (with_due true at n log)
+task_due seat base at n log m = due_has (TaskMeets seat base) true at (λ k kind l was. task_fault seat base at k kind l was) n log m
+
 -- ---- tasks
 
 module _ (by : Option At) (old new : Run) where
@@ -195,20 +202,25 @@ module _ (by : Option At) (old new : Run) where
   pub copy_does : (line : LineNo) (seg : SegNo) (n : NodeNo) (job : ℕ) (turn : Turn FileTask) → FaultsFollow new.log → PrecopyTurns line seg by n job old new turn → DoesTask by old new
   copy_does line seg n job (Work file) follow turns =
       let hands = turns.1 in
-      let out : Inner = FileOut line n job file.name file.source Whole None in
-      let met : Log = task_met_log hands.at old new in
-      met_does (kept out ∷ met) (task_kept (name_by by) old.log met out (inr refl) (task_met (name_by by) hands.at old new)) hands.hands.is follow
+      let out : Inner = FileOut line n job file.name file.source file.fate None in
+      let met : Log = with_due true hands.at n.0 (task_met_log hands.at old new) in
+      met_does (kept out ∷ met) (task_kept (name_by by) old.log met out (inr refl) (task_due (name_by by) old.log hands.at n.0 (task_met_log hands.at old new) (task_met (name_by by) hands.at old new))) hands.hands.is follow
   copy_does line seg n job Busy follow turns = stays_does turns.2
   copy_does line seg n job Done follow turns = copied_once line seg n job _ follow turns
 
-  part_ends : (line : LineNo) (seg : SegNo) (n : NodeNo) (job : ℕ) (there : Bool) → FaultsFollow new.log → PartEnds line seg by n job old new there → DoesTask by old new
-  part_ends line seg n job true follow fails = copy_ends line seg n job follow fails.0
-  part_ends line seg n job false follow ends = stays_does ends
+  lost_does : (line : LineNo) (seg : SegNo) (n : NodeNo) (job : ℕ) (fate : Fate) → FaultsFollow new.log → LosesCopy fate line seg by n job old new → DoesTask by old new
+  lost_does line seg n job Whole follow fails = copy_ends line seg n job follow fails.0
+  lost_does line seg n job Fail follow ends = copy_ends line seg n job follow ends
+  lost_does line seg n job (Damage byte) follow ends = copy_ends line seg n job follow ends
 
-  pub part_does : (line : LineNo) (seg : SegNo) (n : NodeNo) (job : ℕ) (turn : Turn (Unit {0})) → FaultsFollow new.log → PartTurns line seg by n job old new turn → DoesTask by old new
-  part_does line seg n job (Work w) follow turns = met_does (task_met_log turns.0.at old new) (task_met (name_by by) turns.0.at old new) turns.0.meets.is follow
-  part_does line seg n job Done follow turns = part_ends line seg n job _ follow turns
-  part_does line seg n job Busy follow turns = absurd turns
+  part_ends : (line : LineNo) (seg : SegNo) (n : NodeNo) (job : ℕ) (fate : Fate) (there : Bool) → FaultsFollow new.log → PartEnds line seg by n job fate old new there → DoesTask by old new
+  part_ends line seg n job fate true follow lost = lost_does line seg n job fate follow lost
+  part_ends line seg n job fate false follow ends = stays_does ends
+
+  pub part_does : (line : LineNo) (seg : SegNo) (n : NodeNo) (job : ℕ) (fate : Fate) (turn : Turn (Unit {0})) → FaultsFollow new.log → PartTurns line seg by n job fate old new turn → DoesTask by old new
+  part_does line seg n job fate (Work w) follow turns = met_does (task_met_log turns.0.at old new) (task_met (name_by by) turns.0.at old new) turns.0.meets.is follow
+  part_does line seg n job fate Done follow turns = part_ends line seg n job fate _ follow turns
+  part_does line seg n job fate Busy follow turns = absurd turns
 
   cut_once : (line : LineNo) (seg : SegNo) (copied : Bool) → FaultsFollow new.log → CutsOnce line seg by old new copied → DoesTask by old new
   cut_once line seg true follow (inl ends, calm) = merge_ends line seg CutStep true follow ends

@@ -29,8 +29,10 @@ use Rattle.script_serving.specs.Serves.{First, Follows, Suits}
 use Rattle.cluster_state.specs.Run.{Run, IsNow}
 use Rattle.cluster_state.specs.Calls.{by_refusal}
 use Rattle.cluster_state.specs.Met.{failures_by_plan, fault_by}
+use Rattle.cluster_state.specs.DueFaults.{with_due}
 use Rattle.cluster_state.specs.GivesUp.{met_log}
 use Rattle.cluster_state.proofs.Faulted.{met_has}
+use Rattle.cluster_state.proofs.FilesDue.{due_has}
 use Rattle.lane_threads.specs.Owes.{SuitsOrFault, SuitsOrReplays, AddsEntries, GoesByLine}
 use Rattle.cluster_core.specs.Doing.{Does, IsReplied, IsBegunBy}
 
@@ -96,6 +98,10 @@ met_meets logged command at old new undue unanswered =
 -- the same where operations are not logged
 pub met_here : (command : LineCommand) (at : At) (old new : Run) → is_answered at (printed old.log) ≡ false → Meets false command at old.log (met_log at old new)
 met_here command at old new unanswered = met_meets false command at old new refl unanswered
+
+-- those that a file meets
+pub meets_over_due : (logged : Bool) (command : LineCommand) (at : At) (base : Log) (n : ℕ) (log : Log) → Meets logged command at base log → Meets logged command at base (with_due false at n log)
+meets_over_due logged command at base n log m = due_has (Meets logged command at base) false at (λ k kind l was. meets_one logged command at base k kind l was) n log m
 
 -- the version that a promotion forces is as before
 pub forced_over : (force : Force) (at : At) (n : ℕ) (kind : FaultKind) (past : Past) → forced_version force (faulted at (record { 0 = n }) kind past) ≡ forced_version force past

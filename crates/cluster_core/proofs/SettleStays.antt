@@ -29,7 +29,7 @@ use Rattle.cluster_state.specs.declared.standing.Standing.{Standing}
 use Rattle.cluster_state.specs.declared.standing.Standing.TheVariants.{Runs, Passed, Ends}
 use Rattle.cluster_state.specs.declared.turn.Turn.{Turn}
 use Rattle.cluster_state.specs.declared.turn.Turn.TheVariants.{Work, Done, Busy}
-use Rattle.cluster_state.proofs.MetLines.{met_settling}
+use Rattle.cluster_state.proofs.MetLines.{met_settling, due_settling}
 use Rattle.cluster_state.specs.CopyCalls.{standing_of, log_after, stopped_log, JobSteps, AreFrom, SettlesOn}
 
 all_step : (P R Q : NodeNo → Type 0) (xs : List NodeNo) → ((n : NodeNo) → P n → R n → Q n) → All P xs → All R xs → All Q xs
@@ -99,7 +99,8 @@ steps_on size row left s new turn nodes settling from reached steps = by (stoppe
     by : (o : Option Log) → stopped_log (Settling left.version) row s.log ≡ o → (turn : Turn FileTask) → JobSteps o row.job s new turn → SettlesOn row.job.at left new
     by (Some log) is turn steps =
         whole log steps.1.nodes steps.1.log (stopped_stays size row.job.at left (standing_of (Settling left.version) row (printed s.log)) s.log log is settling)
-    by None is (Work file) steps = whole _ steps.now.nodes steps.now.log (λ line. here)
+    by None is (Work file) steps =
+        whole _ steps.now.nodes steps.now.log (λ line. due_settling row.job.at row.job.at row.job.node.0 (met_log row.job.at s new) size left here)
     by None is Done (inl ends) =
         let now = subst (λ (o : Option Event). IsNow s new (ended_log row.job o (met_log row.job.at s new))) settling.started ends in
         whole _ now.nodes now.log (λ line. switched_stays size (printed (met_log row.job.at s new)) row.job.at left row.job.node row.job.version reached from here)

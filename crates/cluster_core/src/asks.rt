@@ -1,20 +1,23 @@
 //! The calls of lines that search, of those that open and close tickets, and of those that list files.
 
 use crate::cluster::Cluster;
-use cluster_search::{answer_end, ask_start, files, search_start, ticket_close, ticket_open};
+use cluster_search::{
+    answer_end, ask_start, documents_of, files, search_start, ticket_close, ticket_open,
+};
 use cluster_state::Turn;
 use disk_model::FaultDir;
 use documents::{Answer, Query};
 use history_rules::Event;
-use nrt_base::{At, NoMemory, NodeNo, TicketNo};
+use nrt_base::{At, Doc, NoMemory, NodeNo, TicketNo};
 use searcher_switch::Lease;
 use seg_reader::Segment;
 use std::alloc::Global;
 
 impl<D: FaultDir + Drop> Cluster<D> {
-    ghost use Rattle.std.specs.Prelude.{◌≡◌, ◌≢◌, ◌∷◌, [], false, OnOk, OnErr, IfOk};
+    ghost use Rattle.std.specs.Prelude.{◌≡◌, ◌≢◌, ◌∷◌, [], false, true, OnOk, OnErr, IfOk};
     ghost use Rattle.documents.specs.declared.query.Query.{Query};
-    ghost use Rattle.history_rules.specs.Nodes.{IsNode};
+    ghost use Rattle.history_rules.specs.Nodes.{IsNode, is_running, version_of};
+    ghost use Rattle.history_rules.specs.Points.{documents_at};
     ghost use Rattle.history_rules.specs.Lines.{entries_of_line, last_of_line};
     ghost use Rattle.history_rules.specs.Tickets.{open_ticket};
     ghost use Rattle.history_book.specs.Log.{printed, shown};
@@ -152,5 +155,17 @@ impl<D: FaultDir + Drop> Cluster<D> {
         ensures replied { OnOk result (IsReplied at self.new) }
     {
         files(&mut self.state, alloc, at, n)
+    }
+
+    /// The documents that a running node shows to searches, in order of key: those of the version that the history shows of it. It changes
+    /// nothing.
+    pub fn documents_of(&self, alloc: Global, n: NodeNo) -> Result<Vec<Doc>, NoMemory>
+        requires running { self.now.ended ≡ false }
+        requires node { IsNode self.now.nodes n.0 }
+        requires up { is_running n.0 (printed self.now.log) ≡ true }
+        ensures { IfOk result (λ docs. docs.items ≡ documents_at (printed self.now.log)
+            (version_of n.0 (printed self.now.log))) }
+    {
+        documents_of(&self.state, alloc, n)
     }
 }

@@ -3,7 +3,7 @@
 use crate::cluster::Cluster;
 use cluster_copies::{copy_arrived, copy_next, copy_start, settle_next, settle_start};
 use cluster_state::{CopyTask, FileTask, SettleTask, Turn};
-use copy_job::Part;
+use copy_job::{JobFault, Part};
 use disk_model::FaultDir;
 use history_rules::Event;
 use nrt_base::{At, NoMemory, NodeNo};
@@ -23,6 +23,7 @@ impl<D: FaultDir + Drop> Cluster<D> {
     ghost use Rattle.script_serving.specs.declared.script.LineCommand.TheVariants.{Copy, Settle};
     ghost use Rattle.cluster_state.specs.Given.{SettleTask};
     ghost use Rattle.cluster_state.specs.Run.{IsNow, IsEnded};
+    ghost use Rattle.cluster_state.specs.DueFaults.{MeetsFate, ArrivesBy};
     ghost use Rattle.cluster_state.specs.FilesOut.{file_out};
     ghost use Rattle.cluster_state.specs.Copies.{newest_of, IsCopying, JobRuns};
     ghost use Rattle.cluster_state.specs.Settles.{IsSettling};
@@ -95,24 +96,27 @@ impl<D: FaultDir + Drop> Cluster<D> {
         copy_next(&mut self.state, alloc, row)
     }
 
-    /// Takes a part of a file that was handed out. Done says that the job has ended: the line was refused, also where a disk failed, by a plan
-    /// that the history shows; or it is a settle and the node has crashed.
+    /// Takes what arrived of a file that was handed out. Done says that the job has ended: the line was refused, also where the link failed, the
+    /// file was damaged or a disk failed, by a plan that the history shows; or it is a settle and the node has crashed.
     pub fn copy_arrived(
         &mut self,
         alloc: Global,
         at: At,
         task: &CopyTask,
-        part: Part,
+        file: &FileTask,
+        arrived: Result<Part, JobFault>,
     ) -> Result<Turn<()>, NoMemory>
         requires running { self.old.ended ≡ false }
         requires copying { IsCopying at self.old.log task.now }
-        requires out { file_out at task.now.node.0 task.now.job part.name self.old.log
-            ≡ Some part.bytes }
-        requires meta { IsMetaOf part.bytes part.meta }
+        requires out { file_out at task.now.node.0 task.now.job file.now.name self.old.log
+            ≡ Some file.now.source }
+        requires meta { IsMetaOf file.now.source file.now.meta }
+        requires met { MeetsFate file.now.fate at task.now.node.0 (printed self.old.log) }
+        requires arrives { ArrivesBy file.now arrived }
 
         // a job that runs, and one that was stopped
         ensures ok { IfOk result (λ turn. (row : JobRow) → JobRuns self.old.log row
-            → row.job.at ≡ at → JobTakes row.job part.name self.old self.new turn) }
+            → row.job.at ≡ at → JobTakes row.job file.now self.old self.new turn) }
         ensures stops { IfOk result (λ turn. (row : JobRow) (begun : Event) (log : Log)
             → job_of at.lane.0 self.old.log ≡ Some row
             → start_entry at (printed self.old.log) ≡ Some begun
@@ -129,7 +133,7 @@ impl<D: FaultDir + Drop> Cluster<D> {
             unreachable!()
         };
         self.state.book().is_legal();
-        copy_arrived(&mut self.state, alloc, row, part)
+        copy_arrived(&mut self.state, alloc, row, file, arrived)
     }
 
     /// Starts a settle.

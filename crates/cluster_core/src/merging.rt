@@ -5,7 +5,7 @@ use cluster_merges::{
     counted, drained, merge_cut, merge_ready, merge_start, precopy_arrived, precopy_next, task_take,
 };
 use cluster_state::{FileTask, Turn};
-use copy_job::Part;
+use copy_job::{JobFault, Part};
 use disk_model::FaultDir;
 use merge_tasks::{Sent, Task};
 use nrt_base::{At, NoMemory};
@@ -13,7 +13,7 @@ use seg_merge::Merged;
 use std::alloc::Global;
 
 impl<D: FaultDir + Drop> Cluster<D> {
-    ghost use Rattle.std.specs.Prelude.{◌≡◌, ◌≤◌, [], false, IfOk, OnOk, OnErr};
+    ghost use Rattle.std.specs.Prelude.{◌≡◌, ◌≤◌, [], false, Some, IfOk, OnOk, OnErr};
     ghost use Rattle.copy_state.specs.Meta.{IsMetaOf};
     ghost use Rattle.history_rules.specs.Nodes.{IsNode};
     ghost use Rattle.history_rules.specs.Lines.{entries_of_line};
@@ -22,6 +22,7 @@ impl<D: FaultDir + Drop> Cluster<D> {
     ghost use Rattle.merge_tasks.specs.TaskLog.{carried_out};
     ghost use Rattle.history_book.specs.Told.{counted_for};
     ghost use Rattle.merge_tasks.specs.Board.{open_merge, is_unwritten};
+    ghost use Rattle.cluster_state.specs.DueFaults.{ArrivesBy};
     ghost use Rattle.cluster_state.specs.Run.{IsEnded};
     ghost use Rattle.cluster_merges.specs.MergePaths.{IsMergedOut, EndsBuild, TakesTask};
     ghost use Rattle.cluster_merges.specs.TaskCalls.{MergeLine, PrecopyTurns, PartTurns, CutTurns, DrainTurns};
@@ -107,21 +108,23 @@ impl<D: FaultDir + Drop> Cluster<D> {
         ended
     }
 
-    /// Puts a part into the copy of a task. Done says that the task has ended, also where the disk of the node failed, by a plan that the
-    /// history shows.
+    /// Puts what arrived of a file into the copy of a task. Done says that the task has ended, also where the link failed, the file was damaged or
+    /// the disk of the node failed, by a plan that the history shows.
     pub fn precopy_arrived(
         &mut self,
         alloc: Global,
         task: &Task,
         copy: Sent,
-        part: Part,
+        file: &FileTask,
+        arrived: Result<Part, JobFault>,
     ) -> Result<Turn<()>, NoMemory>
         requires running { self.old.ended ≡ false }
         requires node { IsNode self.old.nodes copy.node.0 }
-        requires out { carried_out part.name self.old.log ≡ Some part.bytes }
-        requires meta { IsMetaOf part.bytes part.meta }
+        requires out { carried_out file.now.name self.old.log ≡ Some file.now.source }
+        requires meta { IsMetaOf file.now.source file.now.meta }
+        requires arrives { ArrivesBy file.now arrived }
         ensures ok { IfOk result (PartTurns task.now.line task.now.seg task.now.by
-            copy.node copy.job self.old self.new) }
+            copy.node copy.job file.now.fate self.old self.new) }
         ensures err { OnErr result (IsEnded self.old self.new) }
 
         // what its taker is owed
@@ -135,7 +138,8 @@ impl<D: FaultDir + Drop> Cluster<D> {
             task.by,
             copy.node,
             copy.job,
-            part,
+            file,
+            arrived,
         );
         self.state.book().is_legal();
         ended

@@ -72,7 +72,7 @@ module _ {D : Type 0} where
 pub nothing_done : (r : Run) → r.ended ≡ false → IsAsBefore r r
 nothing_done r running = record { is = record { running = running; nodes = refl; log = refl }; rows_are = refl; posted_are = refl }
 
-some_is : (o : Option Job) (c : Job) → o ≡ Some c → IsSome o
+pub some_is : (o : Option Job) (c : Job) → o ≡ Some c → IsSome o
 some_is o c is = ap is_some is
 
 module _ {D : Type 0} where
@@ -100,7 +100,7 @@ module _ {D : Type 0} where
       by None there none = absurd none
       by (Some z) there is = of_node z.node z.held there is
 
-  replica_there : (places : List (Option (NodePlace D))) (n : ℕ) (r : ReplicaParts D) (held : Vec HeldTicket Global) → place_of places n ≡ Some (record { node = Replica r; held = held }) → HasReplica (place_of places n)
+  pub replica_there : (places : List (Option (NodePlace D))) (n : ℕ) (r : ReplicaParts D) (held : Vec HeldTicket Global) → place_of places n ≡ Some (record { node = Replica r; held = held }) → HasReplica (place_of places n)
   replica_there places n r held there = subst HasReplica (sym there) tt
 
 module _ {D : Type 0} (cells : D → Cells) (b : Sheet) (board : Board) (places : List (Option (NodePlace D))) (all : AllShown cells b board places) (legal : IsLegalPast b.nodes (printed b.log)) (seg : SegNo) (n : NodeNo) (number : ℕ) (node : IsNode b.nodes n.0)

@@ -25,9 +25,10 @@ use Rattle.history_rules.specs.Nodes.{IsNode, primary_of}
 use Rattle.history_rules.specs.Points.{IsDrawnFile}
 use Rattle.history_book.specs.Log.{Log, printed, kept}
 use Rattle.history_book.specs.declared.inner.Inner.{Inner}
-use Rattle.link_model.specs.declared.fate.Fate.TheVariants.{Whole}
+use Rattle.link_model.specs.declared.fate.Fate.{Fate}
 use Rattle.history_book.specs.declared.inner.Inner.TheVariants.{FileOut}
 use Rattle.merge_tasks.specs.Merging.{Sheet}
+use Rattle.merge_tasks.specs.Fates.{fate_due}
 use Rattle.merge_tasks.specs.TaskLog.{or_first, carries_as, carried_out}
 use Rattle.merge_tasks.specs.Board.{Board, open_merge, spread_at, has_copy_task}
 use Rattle.merge_tasks.proofs.TaskFrames.{first_stays, tasks_kept}
@@ -48,6 +49,7 @@ use Rattle.cluster_state.proofs.JobMoves.{primary_place, shows_put}
 use Rattle.cluster_state.proofs.MergingPaths.{gone_without}
 use Rattle.cluster_state.proofs.MergingStill.{one_keeps, primary_keeps, stand_same}
 use Rattle.cluster_state.proofs.Naming.{holds_same}
+use Rattle.cluster_state.specs.DueFaults.{with_due}
 use Rattle.cluster_state.specs.State.{PlaceShows}
 use Rattle.cluster_merges.specs.Running.{AllShown}
 use Rattle.cluster_merges.proofs.InsideSteps.{same_carried, inside_all, each_still}
@@ -58,10 +60,10 @@ use Rattle.cluster_merges.proofs.CopyFacts.{not_wants, step_replica, step_here, 
 
 -- ---- what is handed out of merged files
 
-module _ (log : Log) (line : LineNo) (n : NodeNo) (job : ℕ) (name : Name) (bytes : List ℕ) where
+module _ (log : Log) (line : LineNo) (n : NodeNo) (job : ℕ) (name : Name) (bytes : List ℕ) (fate : Fate) where
   -- the file that is handed out now reads what the name means, and so does what was handed out before
   pub carried_means : (source : Name → Content) → ((q : Name) (x : List ℕ) → carried_out q log ≡ Some x → source q ≡ Some x) → source name ≡ Some bytes
-      → (q : Name) (x : List ℕ) → carried_out q (kept (FileOut line n job name bytes Whole None) ∷ log) ≡ Some x → source q ≡ Some x
+      → (q : Name) (x : List ℕ) → carried_out q (kept (FileOut line n job name bytes fate None) ∷ log) ≡ Some x → source q ≡ Some x
   carried_means source carried is q x out = by (carried_out q log) (same name q) refl refl out
     where
       by : (o : Content) (t : Bool) → carried_out q log ≡ o → same name q ≡ t → or_first o (if t then Some bytes else None) ≡ Some x → source q ≡ Some x
@@ -71,12 +73,12 @@ module _ (log : Log) (line : LineNo) (n : NodeNo) (job : ℕ) (name : Name) (byt
       by (Some y) false older apart got = carried q y older ∙ got
 
   -- it counts, where what was handed out before under the name was the same
-  pub carried_now : ((x : List ℕ) → carried_out name log ≡ Some x → x ≡ bytes) → carried_out name (kept (FileOut line n job name bytes Whole None) ∷ log) ≡ Some bytes
+  pub carried_now : ((x : List ℕ) → carried_out name log ≡ Some x → x ≡ bytes) → carried_out name (kept (FileOut line n job name bytes fate None) ∷ log) ≡ Some bytes
   carried_now alike = by (carried_out name log) refl
     where
-      by : (o : Content) → carried_out name log ≡ o → or_first (carried_out name log) (carries_as name (FileOut line n job name bytes Whole None)) ≡ Some bytes
-      by None none = ap (λ (o : Content). or_first o (carries_as name (FileOut line n job name bytes Whole None))) none ∙ ap (λ (t : Bool). or_first None (if t then Some bytes else None)) (same_self name)
-      by (Some x) older = first_stays (carried_out name log) (carries_as name (FileOut line n job name bytes Whole None)) bytes (older ∙ ap Some (alike x older))
+      by : (o : Content) → carried_out name log ≡ o → or_first (carried_out name log) (carries_as name (FileOut line n job name bytes fate None)) ≡ Some bytes
+      by None none = ap (λ (o : Content). or_first o (carries_as name (FileOut line n job name bytes fate None))) none ∙ ap (λ (t : Bool). or_first None (if t then Some bytes else None)) (same_self name)
+      by (Some x) older = first_stays (carried_out name log) (carries_as name (FileOut line n job name bytes fate None)) bytes (older ∙ ap Some (alike x older))
 
 module _ {D : Type 0} (cells : D → Cells) where
   -- ---- a file was read
@@ -106,26 +108,26 @@ module _ {D : Type 0} (cells : D → Cells) where
       mine = some_at (PlaceShows cells b.log p.0) (place_of old p.0) (record { node = Primary read.at.parts; held = read.at.held }) read.at.there (all.0.each p.0 node)
 
   -- and handed out
-  pub hand_path : (b0 b2 : Sheet) (board : Board) (old new : List (Option (NodePlace D))) (p : NodeNo) (line : LineNo) (n : NodeNo) (job : ℕ) (name : Name) (bytes : List ℕ) → b2.log ≡ kept (FileOut line n job name bytes Whole None) ∷ b0.log → b2.nodes ≡ b0.nodes → b2.cut ≡ b0.cut
+  pub hand_path : (b0 b2 : Sheet) (board : Board) (old new : List (Option (NodePlace D))) (p : NodeNo) (line : LineNo) (n : NodeNo) (job : ℕ) (name : Name) (bytes : List ℕ) (fate : Fate) → b2.log ≡ kept (FileOut line n job name bytes fate None) ∷ b0.log → b2.nodes ≡ b0.nodes → b2.cut ≡ b0.cut
       → IsNode b0.nodes p.0 → ReadsIn cells p.0 name bytes old new → (all : AllShown cells b0 board old) → all.1.source name ≡ Some bytes → AllShown cells b2 board new
-  hand_path b0 b2 board old new p line n job name bytes log nodes cut node read all is = read_path b2 board old new p (subst (λ (k : ℕ). IsNode k p.0) (sym nodes) node) (alters_of p.0 name bytes old new read) entry
+  hand_path b0 b2 board old new p line n job name bytes fate log nodes cut node read all is = read_path b2 board old new p (subst (λ (k : ℕ). IsNode k p.0) (sym nodes) node) (alters_of p.0 name bytes old new read) entry
     where
       i : Inner
-      i = FileOut line n job name bytes Whole None
+      i = FileOut line n job name bytes fate None
 
       entry : AllShown cells b2 board old
-      entry = inside_all cells b0 b2 old board board i log nodes cut (λ at. refl) (λ m. same_carried b0.log line n job name bytes m) (tasks_kept b0.nodes b0.log board i refl all.2.tasks) all.2.fit
+      entry = inside_all cells b0 b2 old board board i log nodes cut (λ at. refl) (λ m. same_carried b0.log line n job name bytes fate m) (tasks_kept b0.nodes b0.log board i refl all.2.tasks) all.2.fit
           (each_still cells b0.log (kept i ∷ b0.log) b0.cut b0.nodes board.rows board.rows old (λ seg inputs told. told) refl all.2.each) (λ none. none) all
-          (carried_means b0.log line n job name bytes all.1.source all.1.carried is)
+          (carried_means b0.log line n job name bytes fate all.1.source all.1.carried is)
 
   module _ (b0 b2 : Sheet) (board : Board) (old new : List (Option (NodePlace D))) (all : AllShown cells b0 board old) (p : NodeNo) (node_p : IsNode b0.nodes p.0) (primary : primary_of (printed b0.log) ≡ Some p)
       (line : LineNo) (seg : SegNo) (n : NodeNo) (job : ℕ) (node : IsNode b0.nodes n.0) where
     -- ---- the next file
 
-    module _ (name : Name) (meta : FileMetaData) (bytes copy : List ℕ) (step : IsStepAt seg.0 job (place_of old n.0) (Wants name meta)) (read : ReadsIn cells p.0 name bytes old new) (shared : copy ≡ bytes)
-        (log : b2.log ≡ kept (FileOut line n job name copy Whole None) ∷ b0.log) (nodes : b2.nodes ≡ b0.nodes) where
-      log_now : b2.log ≡ kept (FileOut line n job name bytes Whole None) ∷ b0.log
-      log_now = log ∙ ap (λ (x : List ℕ). kept (FileOut line n job name x Whole None) ∷ b0.log) shared
+    module _ (name : Name) (meta : FileMetaData) (bytes copy : List ℕ) (fate : Fate) (step : IsStepAt seg.0 job (place_of old n.0) (Wants name meta)) (read : ReadsIn cells p.0 name bytes old new) (shared : copy ≡ bytes)
+        (log : b2.log ≡ kept (FileOut line n job name copy fate None) ∷ b0.log) (nodes : b2.nodes ≡ b0.nodes) where
+      log_now : b2.log ≡ kept (FileOut line n job name bytes fate None) ∷ b0.log
+      log_now = log ∙ ap (λ (x : List ℕ). kept (FileOut line n job name x fate None) ∷ b0.log) shared
 
       next : NextOfCopy cells b0 board old all p node_p primary name meta
       next = next_file cells b0 board old all p node_p primary n.0 seg.0 job name meta node step
@@ -134,14 +136,16 @@ module _ {D : Type 0} (cells : D → Cells) where
       means = read_means cells b0 board old all p node_p primary name meta bytes new next read
 
       pub handed_all : b2.cut ≡ b0.cut → AllShown cells b2 board new
-      handed_all cut = hand_path b0 b2 board old new p line n job name bytes log_now nodes cut node_p read all means
+      handed_all cut = hand_path b0 b2 board old new p line n job name bytes fate log_now nodes cut node_p read all means
 
-      pub handed_file : AreBytes bytes → HandsCopyFile line n job b0 b2 board board (record { name = name; source = bytes; meta = meta })
-      handed_file fits = record {
-        log = log_now;
-        nodes = nodes;
+      pub handed_file : (at : At) (met : Sheet) → b0.log ≡ with_due true at n.0 met.log → b0.nodes ≡ met.nodes → fate ≡ fate_due n.0 met.log → AreBytes bytes
+          → HandsCopyFile at line n job met b2 board board (record { name = name; source = bytes; meta = meta; fate = fate })
+      handed_file at met due same becomes fits = record {
+        log = log_now ∙ ap (λ (l : Log). kept (FileOut line n job name bytes fate None) ∷ l) due;
+        fate = becomes;
+        nodes = nodes ∙ same;
         board_is = refl;
-        out = ap (carried_out name) log_now ∙ carried_now b0.log line n job name bytes (λ x out. one x (all.1.carried name x out));
+        out = ap (carried_out name) log_now ∙ carried_now b0.log line n job name bytes fate (λ x out. one x (all.1.carried name x out));
         meta = read_meta cells b0 board old all p node_p primary name meta bytes next means;
         footer = read_footer cells b0 board old all p node_p primary name meta bytes next means fits;
       }

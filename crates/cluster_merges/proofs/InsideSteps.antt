@@ -14,7 +14,7 @@ use Rattle.history_tables.specs.JobRows.{row_if_some, while_going}
 use Rattle.history_book.specs.Jobs.{last_job}
 use Rattle.history_book.specs.Log.{Log, printed, kept}
 use Rattle.history_book.specs.declared.inner.Inner.{Inner}
-use Rattle.link_model.specs.declared.fate.Fate.TheVariants.{Whole}
+use Rattle.link_model.specs.declared.fate.Fate.{Fate}
 use Rattle.history_book.specs.declared.inner.Inner.TheVariants.{JobBegun, FileOut, TaskOut}
 use Rattle.merge_tasks.specs.Merging.{Sheet}
 use Rattle.merge_tasks.specs.declared.tasks.OpenMerge.{OpenMerge}
@@ -55,8 +55,8 @@ same_sent log line m k n = record {
 }
 
 -- nor is a file of one
-pub same_carried : (log : Log) (line : LineNo) (m : NodeNo) (k : ℕ) (name : Name) (bytes : List ℕ) (n : ℕ) → SameJob log (kept (FileOut line m k name bytes Whole None) ∷ log) n
-same_carried log line m k name bytes n = record {
+pub same_carried : (log : Log) (line : LineNo) (m : NodeNo) (k : ℕ) (name : Name) (bytes : List ℕ) (fate : Fate) (n : ℕ) → SameJob log (kept (FileOut line m k name bytes fate None) ∷ log) n
+same_carried log line m k name bytes fate n = record {
   job = ap (while_going n (printed log)) (passes (last_job false n log));
   points = points_alone (printed log);
   latest = λ v none. none;

@@ -9,10 +9,12 @@ pub mod CopyRows
 mod CutFiles
 mod CutPaths
 mod CutStands
+mod DueFiles
 mod EndedCopies
 pub mod FilesMore
 mod GivenMerges
 pub mod InsideSteps
+mod LostCopies
 mod MaySending
 mod MovedCopies
 mod ReadyFiles

@@ -12,7 +12,6 @@ use Rattle.history_rules.specs.Nodes.{primary_of}
 use Rattle.history_rules.specs.Lines.{publish_in_flight}
 use Rattle.history_book.specs.Log.{Log, printed, kept}
 use Rattle.history_book.specs.declared.inner.Inner.TheVariants.{FileOut, MergeEnd, TaskEnd}
-use Rattle.link_model.specs.declared.fate.Fate.TheVariants.{Whole}
 use Rattle.history_book.specs.Jobs.{job_at}
 use Rattle.history_book.specs.declared.inner.Step.{Step}
 use Rattle.history_book.specs.declared.inner.Step.TheVariants.{Merge as MergeStep, PreCopy as PreCopyStep, Cut as CutStep}
@@ -26,6 +25,8 @@ use Rattle.cluster_nodes.specs.declared.nodes.NodePlace.{NodePlace}
 use Rattle.cluster_nodes.specs.declared.went.Went.{Went}
 use Rattle.cluster_nodes.specs.declared.went.Went.TheVariants.{Done, Failed}
 use Rattle.cluster_nodes.specs.Went.{ByWent}
+use Rattle.merge_tasks.specs.Fates.{fate_due}
+use Rattle.cluster_state.specs.DueFaults.{with_due}
 use Rattle.cluster_state.specs.Met.{met_in, with_met, has_risen, failures_by_plan}
 use Rattle.cluster_state.specs.PlansIn.{plans_in}
 use Rattle.cluster_state.specs.Run.{Rest, Run}
@@ -162,7 +163,7 @@ module _ {D : Type 0} (planned : D → Plans) (r : Run) {ended : Bool} {left : R
     nodes_now : met.nodes ≡ r.nodes
     nodes_now = n1 ∙ ap (λ (x : Run). x.nodes) view
 
-    ends_copy : EndsCopyOf line seg by n job met b2 board after → EndsCopyTask line seg by n job r ran
+    pub ends_copy : EndsCopyOf line seg by n job met b2 board after → EndsCopyTask line seg by n job r ran
     ends_copy e = record {
       at = at;
       on = on_now;
@@ -182,7 +183,7 @@ module _ {D : Type 0} (planned : D → Plans) (r : Run) {ended : Bool} {left : R
     same_posted z is = ap (λ (b : Board). b.posted) (is ∙ sym tasks_were) ∙ ap (λ (x : Run). x.rest.tasks.posted) view
 
     -- the next step of a copy
-    pub turns_so : (p : NodeNo) → primary_of (printed r.log) ≡ Some p → (turn : CopyTurn) → StepsCopyTo line seg by p n job (mets planned old) (mets planned new) b1 met b2 board after turn → TurnsCopy line seg by n job r ran turn
+    pub turns_so : (p : NodeNo) → primary_of (printed r.log) ≡ Some p → (turn : CopyTurn) → StepsCopyTo at line seg by p n job (mets planned old) (mets planned new) b1 met b2 board after turn → TurnsCopy line seg by n job r ran turn
     turns_so p primary Waits is = (
       record {
         is = record { running = refl; nodes = ap (λ (b : Sheet). b.nodes) is.0 ∙ nodes_now; log = ap (λ (b : Sheet). b.log) is.0 ∙ log_was };
@@ -195,10 +196,11 @@ module _ {D : Type 0} (planned : D → Plans) (r : Run) {ended : Bool} {left : R
       at = at;
       on = on_now;
       hands = record {
-        is = record { running = refl; nodes = is.nodes ∙ nodes_now; log = is.log ∙ ap (λ (l : Log). kept (FileOut line n job file.name file.source Whole None) ∷ l) (met_told b2.nodes b2.log at) };
+        is = record { running = refl; nodes = is.nodes ∙ nodes_now; log = is.log ∙ ap (λ (l : Log). kept (FileOut line n job file.name file.source file.fate None) ∷ with_due true at n.0 l) (met_told b2.nodes b2.log at) };
         rows_are = same_board now.tasks (tasks_are ∙ is.board_is);
         posted_are = same_posted now.tasks (tasks_are ∙ is.board_is);
       };
+      fate = is.fate ∙ ap (fate_due n.0) (met_told b2.nodes b2.log at);
       out = is.out;
       meta = is.meta;
       footer = is.footer;

@@ -20,20 +20,16 @@ use Rattle.merge_tasks.specs.Board.{Board, step_of, IsToldKind, IsToldTask, with
 use Rattle.merge_tasks.proofs.TaskFrames.{tasks_drained, told_all, may_drain_most}
 use Rattle.cluster_nodes.specs.declared.nodes.NodePlace.{NodePlace}
 use Rattle.disk_model.specs.Faults.{Plans}
-use Rattle.cluster_state.specs.Run.{JobFiles, MergedCopy, Rest, Run}
+use Rattle.cluster_state.specs.Run.{JobFiles, MergedCopy, Run}
 use Rattle.cluster_state.specs.Merging.{IsFitKind, MergesStand}
 use Rattle.cluster_state.proofs.Frames.{noted}
 use Rattle.cluster_state.proofs.FileFrames.{files_noted}
-use Rattle.cluster_state.proofs.Turning.{past_has, fresh_turn, fresh_line}
+use Rattle.cluster_state.proofs.Turning.{past_has, running_has, fresh_turn, fresh_line}
 use Rattle.cluster_state.proofs.Growing.{not_flying}
 use Rattle.cluster_state.proofs.Disks.{fresh_flights}
 use Rattle.cluster_merges.specs.MergePaths.{IsBoard, IsAsBefore, HandsTask}
 use Rattle.cluster_merges.specs.Running.{AllShown}
 use Rattle.cluster_merges.proofs.InsideSteps.{all_is, each_still, take_path}
-
--- what was true of a cluster that ran
-pub all_at : {A : Type 0} {r : Run} {ended : Bool} {nodes : ℕ} {log : Log} {rest : Rest} → record { ended = ended; nodes = nodes; log = log; rest = rest } ≡ r → r.ended ≡ false → (ended ≡ false → A) → A
-all_at view running all = all (ap (λ (x : Run). x.ended) view ∙ running)
 
 module _ (r : Run) (b0 b1 : Sheet) (board : Board) {ended cut : Bool} {calls : List ℕ} {sizes : List (Option ℕ)} {copies : List (List MergedCopy)} {jobs : List JobFiles} {plans : List Plans} (view : record { ended = ended; nodes = b0.nodes; log = b0.log; rest = record { calls_left = calls; cut = cut; sizes = sizes; jobs = jobs; copies = copies; tasks = board; plans = plans } } ≡ r)
     (e1 : b1.log ≡ b0.log) (n1 : b1.nodes ≡ b0.nodes) where
@@ -133,7 +129,7 @@ module _ {D : Type 0} (cells : D → Cells) (r : Run) (places : List (Option (No
 
   pub drain_rule : KeepsRule r.nodes (printed r.log) at (Drained done most)
   drain_rule = subst (λ (x : Run). KeepsRule x.nodes (printed x.log) at (Drained done most)) view (record {
-    few = subst (λ (k : ℕ). drained_count (printed b0.log) + k ≤ (b0.nodes + 1) * merge_count (printed b0.log)) (sym same_count) (may_drain_most b0.nodes b0.log board at none_yet (all_at view running all).2.tasks);
+    few = subst (λ (k : ℕ). drained_count (printed b0.log) + k ≤ (b0.nodes + 1) * merge_count (printed b0.log)) (sym same_count) (may_drain_most b0.nodes b0.log board at none_yet (running_has view running all).2.tasks);
     spared = fresh.spared;
   })
 
@@ -142,7 +138,7 @@ module _ {D : Type 0} (cells : D → Cells) (r : Run) (places : List (Option (No
   drained_all e2 n2 c2 legal1 turns1 rows posted counts = (
     noted cells r ended b0 b1 b2 places at (Drained done most) view running (λ e. (all e).0) e1 n1 e2 n2 legal1 turns1 drain_rule apart (λ p m. refl) (λ m. refl),
     files_noted cells r ended b0 b1 b2 places at (Drained done most) view running (λ e. (all e).0) (λ e. (all e).1) e1 n1 e2 n2 legal1 turns1 drain_rule (fresh_turn (printed r.log) at (Drained done most) fresh_now tt) (λ m. refl) (λ m. refl) flights,
-    drained_stand cells places b0 b1 b2 board new e1 n1 c1 at done most e2 n2 c2 none_yet same_count rows posted counts (all_at view running all).2,
+    drained_stand cells places b0 b1 b2 board new e1 n1 c1 at done most e2 n2 c2 none_yet same_count rows posted counts (running_has view running all).2,
   )
     where
       apart : publish_in_flight (printed r.log) ≢ Some at

@@ -9,13 +9,14 @@ use Rattle.copy_state.specs.Meta.{IsMetaOf}
 use Rattle.history_tables.specs.declared.jobs.Job.{Job}
 use Rattle.history_book.specs.Jobs.{job_at}
 use Rattle.history_book.specs.Log.{kept}
-use Rattle.link_model.specs.declared.fate.Fate.TheVariants.{Whole}
 use Rattle.history_book.specs.declared.inner.Inner.TheVariants.{FileOut, TaskEnd}
 use Rattle.history_book.specs.declared.inner.Step.TheVariants.{PreCopy as PreCopyStep}
 use Rattle.merge_tasks.specs.Merging.{Sheet}
+use Rattle.merge_tasks.specs.Fates.{fate_due}
 use Rattle.merge_tasks.specs.TaskLog.{carried_out}
 use Rattle.merge_tasks.specs.Board.{Board, open_merge, spread_at, with_spread, sent_left, sent_less, post_after, done_under, counts_one}
 use Rattle.cluster_nodes.specs.declared.tasks.FileTask.{FileTask}
+use Rattle.cluster_state.specs.DueFaults.{with_due}
 use Rattle.cluster_state.specs.Met.{has_risen}
 use Rattle.cluster_state.specs.Run.{Run}
 use Rattle.cluster_merges.specs.MergePaths.{IsAsBefore, HandsMergedFile, EndsCopyTask, FailsCopy}
@@ -53,9 +54,11 @@ pub record MeetsOf (b now : Sheet) (board after : Board) : Type 0 where
   pub cut : now.cut ≡ b.cut
   pub board_is : after ≡ board
 
--- a file of the merged segment was handed out, with its metadata; it ends in a footer
-pub record HandsCopyFile (line : LineNo) (n : NodeNo) (job : ℕ) (b now : Sheet) (board after : Board) (file : FileTask) : Type 0 where
-  pub log : now.log ≡ kept (FileOut line n job file.name file.source Whole None) ∷ b.log
+-- a file of the merged segment was handed out, with its metadata and what becomes of it, behind the faults that it meets, which are of this line; it
+-- ends in a footer
+pub record HandsCopyFile (at : At) (line : LineNo) (n : NodeNo) (job : ℕ) (b now : Sheet) (board after : Board) (file : FileTask) : Type 0 where
+  pub log : now.log ≡ kept (FileOut line n job file.name file.source file.fate None) ∷ with_due true at n.0 b.log
+  pub fate : file.fate ≡ fate_due n.0 b.log
   pub nodes : now.nodes ≡ b.nodes
   pub board_is : after ≡ board
   pub out : carried_out file.name now.log ≡ Some file.source
@@ -64,11 +67,11 @@ pub record HandsCopyFile (line : LineNo) (n : NodeNo) (job : ℕ) (b now : Sheet
 
 -- The copy waits while the job of a point runs at its node; or its next file was handed out; or it missed none, or does not run any more, and its
 -- task has ended; or that ended as the disk of the primary or of the node failed. But for the first, the faults that were met stand there before.
-abbrev pub StepsCopyTo : LineNo → SegNo → Option At → NodeNo → NodeNo → ℕ → List (ℕ × ℕ) → List (ℕ × ℕ) → Sheet → Sheet → Sheet → Board → Board → CopyTurn → Type 0
-StepsCopyTo line seg by p n job olds news b met now board after Waits = (now ≡ b) × (after ≡ board) × IsSome (job_at n.0 b.log)
-StepsCopyTo line seg by p n job olds news b met now board after (Hands file) = HandsCopyFile line n job met now board after file
-StepsCopyTo line seg by p n job olds news b met now board after Ends = EndsCopyOf line seg by n job met now board after
-StepsCopyTo line seg by p n job olds news b met now board after Fails =
+abbrev pub StepsCopyTo : At → LineNo → SegNo → Option At → NodeNo → NodeNo → ℕ → List (ℕ × ℕ) → List (ℕ × ℕ) → Sheet → Sheet → Sheet → Board → Board → CopyTurn → Type 0
+StepsCopyTo at line seg by p n job olds news b met now board after Waits = (now ≡ b) × (after ≡ board) × IsSome (job_at n.0 b.log)
+StepsCopyTo at line seg by p n job olds news b met now board after (Hands file) = HandsCopyFile at line n job met now board after file
+StepsCopyTo at line seg by p n job olds news b met now board after Ends = EndsCopyOf line seg by n job met now board after
+StepsCopyTo at line seg by p n job olds news b met now board after Fails =
     FailsCopyOf line seg by p n job olds news met now board after ⊎ FailsCopyOf line seg by n n job olds news met now board after
 
 -- ---- as callers see it

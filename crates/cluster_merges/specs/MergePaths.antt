@@ -18,12 +18,12 @@ use Rattle.history_rules.specs.declared.cause.Cause.TheVariants.{Nothing, NamesS
 use Rattle.history_rules.specs.declared.entry.Event.TheVariants.{Merging}
 use Rattle.history_rules.specs.Nodes.{primary_of}
 use Rattle.history_rules.specs.Points.{names_drawn}
-use Rattle.link_model.specs.declared.fate.Fate.TheVariants.{Whole}
 use Rattle.history_book.specs.declared.inner.Inner.TheVariants.{MergeOut, MergeEnd, JobBegun, FileOut, TaskOut, TaskEnd}
 use Rattle.history_book.specs.declared.inner.Step.{Step}
 use Rattle.history_book.specs.declared.inner.Step.TheVariants.{Merge as MergeStep, PreCopy as PreCopyStep, Cut as CutStep}
 use Rattle.history_book.specs.Log.{Log, printed, shown, kept}
 use Rattle.merge_tasks.specs.Merging.{merge_on, cut_after, next_name}
+use Rattle.merge_tasks.specs.Fates.{fate_due}
 use Rattle.merge_tasks.specs.declared.tasks.OpenMerge.{OpenMerge}
 use Rattle.merge_tasks.specs.declared.tasks.Posted.{Posted}
 use Rattle.merge_tasks.specs.declared.tasks.Task.{Task}
@@ -33,6 +33,7 @@ use Rattle.merge_tasks.specs.Board.{open_merge, spread_at, with_spread, without_
 use Rattle.cluster_nodes.specs.declared.tasks.FileTask.{FileTask}
 use Rattle.cluster_state.specs.Run.{Run, IsNow}
 use Rattle.cluster_state.specs.Met.{failures_by_plan, has_risen}
+use Rattle.cluster_state.specs.DueFaults.{with_due}
 use Rattle.cluster_state.specs.GivesUp.{task_met_log}
 use Rattle.cluster_state.specs.Settles.{AreReplicas}
 use Rattle.cluster_state.specs.Merging.{IsFitKind}
@@ -115,11 +116,14 @@ pub record EndsCopyTask (line : LineNo) (seg : SegNo) (by : Option At) (n : Node
       (with_spread seg.0 (sent_less n.0 job (spread_at (open_merge seg.0 old.rest.tasks.rows))) old.rest.tasks.rows)
       (old.rest.tasks.posted ++ post_after seg line (sent_left (sent_less n.0 job (spread_at (open_merge seg.0 old.rest.tasks.rows)))))
 
--- a file of the merged segment was handed out, with its metadata; it ends in a footer; behind the faults that its task met
+-- a file of the merged segment was handed out, with its metadata and what becomes of it; it ends in a footer; behind the faults of disks that its
+-- task met, and those that the file meets, which are of the line of the merge
 pub record HandsMergedFile (line : LineNo) (seg : SegNo) (n : NodeNo) (job : ℕ) (old new : Run) (file : FileTask) : Type 0 where
   pub at : At
   pub on : merge_on seg.0 old.log ≡ Some at
-  pub hands : IsBoard old new (kept (FileOut line n job file.name file.source Whole None) ∷ task_met_log at old new) old.rest.tasks.rows old.rest.tasks.posted
+  pub hands : IsBoard old new (kept (FileOut line n job file.name file.source file.fate None) ∷ with_due true at n.0 (task_met_log at old new))
+      old.rest.tasks.rows old.rest.tasks.posted
+  pub fate : file.fate ≡ fate_due n.0 (task_met_log at old new)
   pub out : carried_out file.name new.log ≡ Some file.source
   pub meta : IsMetaOf file.source file.meta
   pub footer : HasFooter file.source

@@ -12,6 +12,8 @@ use Rattle.history_rules.specs.Nodes.{primary_of}
 use Rattle.history_rules.specs.Lines.{publish_in_flight}
 use Rattle.history_rules.specs.Points.{names_drawn}
 use Rattle.merge_choice.specs.Choice.{IsFirstRange, HasNoRange}
+use Rattle.link_model.specs.declared.fate.Fate.{Fate}
+use Rattle.link_model.specs.declared.fate.Fate.TheVariants.{Whole}
 use Rattle.history_book.specs.Log.{printed, shown}
 use Rattle.history_book.specs.Jobs.{job_at}
 use Rattle.history_book.specs.Told.{counted_for}
@@ -60,16 +62,22 @@ PrecopyTurns line seg by n job old new Busy =
     × (misses_at seg.0 n.0 job old ≡ true)
 PrecopyTurns line seg by n job old new Done = EndsCopyOnce line seg by n job old new (has_copy_task n.0 job (spread_at (open_merge seg.0 old.rest.tasks.rows)))
 
--- a part has come for a copy whose task has not ended, and ends it where the disk fails; or that had ended before
-abbrev pub PartEnds : LineNo → SegNo → Option At → NodeNo → ℕ → Run → Run → Bool → Type 0
-PartEnds line seg by n job old new true = FailsCopy line seg by n job old new
-PartEnds line seg by n job old new false = IsAsBefore old new
+-- a copy has ended, of which not all of a file came, or where all of it came as a disk failed
+abbrev pub LosesCopy : Fate → LineNo → SegNo → Option At → NodeNo → ℕ → Run → Run → Type 0
+LosesCopy Whole line seg by n job old new = FailsCopy line seg by n job old new
+LosesCopy fate line seg by n job old new = EndsCopyTask line seg by n job old new
 
--- the same, and the task goes on
-abbrev pub PartTurns : LineNo → SegNo → Option At → NodeNo → ℕ → Run → Run → Turn Unit → Type 0
-PartTurns line seg by n job old new (Work w) = MeetsFaults seg old new × (has_copy_task n.0 job (spread_at (open_merge seg.0 old.rest.tasks.rows)) ≡ true)
-PartTurns line seg by n job old new Done = PartEnds line seg by n job old new (has_copy_task n.0 job (spread_at (open_merge seg.0 old.rest.tasks.rows)))
-PartTurns line seg by n job old new Busy = ⊥
+-- a file of this fate came for a copy whose task has not ended, and ends that; or it had ended before
+abbrev pub PartEnds : LineNo → SegNo → Option At → NodeNo → ℕ → Fate → Run → Run → Bool → Type 0
+PartEnds line seg by n job fate old new true = LosesCopy fate line seg by n job old new
+PartEnds line seg by n job fate old new false = IsAsBefore old new
+
+-- the same, and the task goes on where all of the file came
+abbrev pub PartTurns : LineNo → SegNo → Option At → NodeNo → ℕ → Fate → Run → Run → Turn Unit → Type 0
+PartTurns line seg by n job fate old new (Work w) =
+    MeetsFaults seg old new × (has_copy_task n.0 job (spread_at (open_merge seg.0 old.rest.tasks.rows)) ≡ true) × (fate ≡ Whole)
+PartTurns line seg by n job fate old new Done = PartEnds line seg by n job fate old new (has_copy_task n.0 job (spread_at (open_merge seg.0 old.rest.tasks.rows)))
+PartTurns line seg by n job fate old new Busy = ⊥
 
 -- no publish was in flight and the merge was cut over, or it was to be cut over no more
 abbrev pub CutsOnce : LineNo → SegNo → Option At → Run → Run → Bool → Type 0

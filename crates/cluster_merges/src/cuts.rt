@@ -11,9 +11,9 @@ ghost use Rattle.cluster_merges.specs.Running.{AllShown};
 ghost use Rattle.cluster_merges.specs.TaskMet.{mets, EndsMergeOf, GivesUpOf};
 ghost use Rattle.cluster_merges.specs.MergePaths.{CutsOver};
 
-use crate::met::{end_behind, met_before};
+use crate::met::end_behind;
 use cluster_nodes::{NodePlace, Went};
-use cluster_state::{ClusterState, files_last, has_risen};
+use cluster_state::{ClusterState, files_last, has_risen, met_before};
 use disk_model::FaultDir;
 use history_book::Step;
 use merge_tasks::{Ledger, Tasks};

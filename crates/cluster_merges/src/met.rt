@@ -1,40 +1,22 @@
-//! The faults of disks that a task of a merge met, and the merge that ends behind them.
+//! The faults that a task of a merge met, and the merge that ends behind them.
 
-ghost use Rattle.std.specs.Prelude.{◌≡◌, ◌≢◌, ◌≤◌, ◌+◌, ◌*◌, ◌^◌, true, None, IfOk, OnOk, OnErr, length};
-ghost use Rattle.history_rules.specs.Lines.{publish_in_flight};
+ghost use Rattle.std.specs.Prelude.{◌≡◌, ◌≢◌, ◌≤◌, ◌+◌, ◌*◌, ◌⊎◌, true, None, OnOk, OnErr, length};
+ghost use Rattle.history_rules.specs.Nodes.{IsNode, IsReplica};
+ghost use Rattle.history_rules.specs.Lines.{last_of_line, publish_in_flight};
+ghost use Rattle.history_rules.specs.Rules.{is_merging};
 ghost use Rattle.history_book.specs.Log.{printed};
+ghost use Rattle.merge_tasks.specs.Fates.{fate_due};
 ghost use Rattle.merge_tasks.specs.Merging.{merge_on};
+ghost use Rattle.cluster_state.specs.DueFaults.{with_due};
 ghost use Rattle.cluster_merges.specs.TaskMet.{mets, EndsBehind};
 
 use cluster_nodes::NodePlace;
-use cluster_state::{kinds_in, show_task_met};
+use cluster_state::{comes_whole, is_merge_line, show_due, show_task_met};
 use disk_model::FaultDir;
-use history_book::{Inner, Step};
+use history_book::{Fate, Inner, Step};
 use merge_tasks::Ledger;
-use nrt_base::{At, LineNo, NoMemory, SegNo};
-use std::alloc::{AllocError, Global};
-
-/// What the disk of each node had met before a task's calls. It makes room for the faults that these meet, and for so many entries more.
-pub(crate) fn met_before<D: FaultDir + Drop>(
-    alloc: Global,
-    ledger: &mut Ledger,
-    places: &Vec<Option<NodePlace<D>>>,
-    more: usize,
-) -> Result<Vec<(u64, u64)>, NoMemory>
-    requires few { more ≤ 2 ^ 63 + 2 }
-    ensures before { IfOk result (λ before. before.items ≡ mets D.planned places.now.items) }
-    ensures room { IfOk result (λ before. 2 * length before.items + more ≤ ledger.new.room) }
-    ensures log { ledger.new.log ≡ ledger.old.log }
-    ensures nodes { ledger.new.nodes ≡ ledger.old.nodes }
-    ensures cut { ledger.new.cut ≡ ledger.old.cut }
-{
-    let before = kinds_in(alloc, places.as_slice())?;
-    if before.len() > u8::MAX as usize {
-        return Err(AllocError);
-    }
-    ledger.reserve(2 * before.len() + more)?;
-    Ok(before)
-}
+use nrt_base::{At, LineNo, NoMemory, NodeNo, SegNo};
+use std::alloc::AllocError;
 
 /// Ends a merge, cut over or not, and its task, behind the faults that the task met. Where one is not planned it fails, as out of memory, and the
 /// ledger is as before.
@@ -68,4 +50,39 @@ pub(crate) fn end_behind<D: FaultDir + Drop>(
         counts: true,
     });
     Ok(())
+}
+
+/// A line is a merge where a fault is due in the next file for a node. It is, as the file is of a merge of the line.
+pub(crate) fn must_merge(ledger: &Ledger, at: At, n: NodeNo) -> Result<(), NoMemory>
+    requires { IsNode ledger.now.nodes n.0 }
+    ensures { OnOk result ((fate_due n.0 ledger.now.log ≡ Fate.Whole)
+        ⊎ (is_merging (last_of_line at (printed ledger.now.log)) ≡ true)) }
+{
+    if comes_whole(ledger, n) {
+        return Ok(());
+    }
+    if is_merge_line(ledger.book(), at) {
+        Ok(())
+    } else {
+        Err(AllocError)
+    }
+}
+
+/// Appends the faults that the next file for a node meets, of the line of its merge, and tells what becomes of the file.
+pub(crate) fn show_task_due(ledger: &mut Ledger, at: At, n: NodeNo) -> Fate
+    requires room { 2 ≤ ledger.old.room }
+    requires node { IsNode ledger.old.nodes n.0 }
+    requires replica { IsReplica (printed ledger.old.log) n.0 }
+    requires merges { (fate_due n.0 ledger.old.log ≡ Fate.Whole)
+        ⊎ (is_merging (last_of_line at (printed ledger.old.log)) ≡ true) }
+    ensures fate { result ≡ fate_due n.0 ledger.old.log }
+    ensures log { ledger.new.log ≡ with_due true at n.0 ledger.old.log }
+    ensures nodes { ledger.new.nodes ≡ ledger.old.nodes }
+    ensures cut { ledger.new.cut ≡ ledger.old.cut }
+    ensures room { ledger.old.room ≤ ledger.new.room + 2 }
+{
+    if comes_whole(ledger, n) {
+        return Fate::Whole;
+    }
+    show_due(ledger, true, at, n)
 }

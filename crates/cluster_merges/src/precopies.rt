@@ -10,22 +10,22 @@ ghost use Rattle.merge_tasks.specs.TaskLog.{carried_out};
 ghost use Rattle.merge_tasks.specs.Board.{open_merge, spread_at, has_copy_task};
 ghost use Rattle.cluster_nodes.specs.Places.{place_of};
 ghost use Rattle.cluster_nodes.specs.Went.{ByWent};
-ghost use Rattle.node_merges.specs.MergePlaces.{IsStepAt};
+ghost use Rattle.node_merges.specs.MergePlaces.{IsStepAt, RunsCopyOf};
 ghost use Rattle.cluster_state.specs.Run.{IsEnded, misses_file, misses_at};
 ghost use Rattle.cluster_state.specs.MergedCopies.{place_copies};
 ghost use Rattle.cluster_merges.specs.Running.{AllShown};
 ghost use Rattle.cluster_merges.specs.TaskMet.{mets, behind};
-ghost use Rattle.cluster_merges.specs.MergePaths.{FailsCopy, MeetsFaults};
+ghost use Rattle.cluster_merges.specs.MergePaths.{EndsCopyTask, FailsCopy, MeetsFaults};
 ghost use Rattle.cluster_merges.specs.CopyTurns.{IsTurnWhere, EndsCopyOf, FailsCopyOf, MeetsOf, StepsCopyTo, TurnsCopy};
 
-use crate::met::met_before;
+use crate::met::{must_merge, show_task_due};
 use cluster_nodes::{FileTask, NodePlace, Went};
-use cluster_state::{ClusterState, are_bytes, has_risen, show_task_met};
+use cluster_state::{ClusterState, are_bytes, has_risen, met_before, show_task_met};
 use copy_job::Part;
 use copy_state::FileMetaData;
 use disk_model::FaultDir;
 use file_names::FileName;
-use history_book::{Fate, Inner, Step};
+use history_book::{Inner, Step};
 use merge_tasks::{Ledger, Tasks};
 use node_merges::{CopyStep, drop_in, read_in, runs_in, settle_in, step_in, take_merged_in};
 use nrt_base::{At, LineNo, NoMemory, NodeNo, SegNo, Share};
@@ -135,7 +135,7 @@ fn settle_copy<D: FaultDir + Drop>(
     requires sent { has_copy_task n.0 job (spread_at (open_merge seg.0 tasks.old.rows)) ≡ true }
     requires step { IsStepAt seg.0 job (place_of places.old.items n.0) CopyStep.Complete }
     ensures shown { OnOk result (AllShown D.cells ledger.new tasks.new places.new.items) }
-    ensures ok { IfOk result (StepsCopyTo line seg by p n job
+    ensures ok { IfOk result (StepsCopyTo at line seg by p n job
         before.now (mets D.planned places.new.items) ledger.old
         (behind at before.now (mets D.planned places.new.items) ledger.old)
         ledger.new tasks.old tasks.new) }
@@ -173,7 +173,7 @@ fn hand_file<D: FaultDir + Drop>(
     meta: FileMetaData,
     before: &[(u64, u64)],
 ) -> Result<CopyTurn, NoMemory>
-    requires room { 2 * length before.now + 1 ≤ ledger.old.room }
+    requires room { 2 * length before.now + 3 ≤ ledger.old.room }
     requires before { before.now ≡ mets D.planned places.old.items }
     requires shown { AllShown D.cells ledger.old tasks.old places.old.items }
     requires source { IsNode ledger.old.nodes p.0 }
@@ -182,7 +182,7 @@ fn hand_file<D: FaultDir + Drop>(
     requires sent { has_copy_task n.0 job (spread_at (open_merge seg.0 tasks.old.rows)) ≡ true }
     requires step { IsStepAt seg.0 job (place_of places.old.items n.0) (CopyStep.Wants name meta) }
     ensures shown { OnOk result (AllShown D.cells ledger.new tasks.new places.new.items) }
-    ensures ok { IfOk result (StepsCopyTo line seg by p n job
+    ensures ok { IfOk result (StepsCopyTo at line seg by p n job
         before.now (mets D.planned places.new.items) ledger.old
         (behind at before.now (mets D.planned places.new.items) ledger.old)
         ledger.new tasks.old tasks.new) }
@@ -195,17 +195,24 @@ fn hand_file<D: FaultDir + Drop>(
         Went::Done(source) => {
             are_bytes(source.as_slice());
             let copy = source.share(alloc)?;
+            must_merge(ledger, at, n)?;
             show_task_met(ledger, at, before, places)?;
+            let fate = show_task_due(ledger, at, n);
             ledger.keep(Inner::FileOut {
                 line,
                 node: n,
                 job,
                 name,
                 source: copy,
-                fate: Fate::Whole,
+                fate,
                 by: None,
             });
-            Ok(CopyTurn::Hands(FileTask { name, source, meta }))
+            Ok(CopyTurn::Hands(FileTask {
+                name,
+                source,
+                meta,
+                fate,
+            }))
         }
         Went::Failed => {
             drop_in(places, n, job);
@@ -230,7 +237,7 @@ fn step_copy<D: FaultDir + Drop>(
     job: u64,
     before: &[(u64, u64)],
 ) -> Result<CopyTurn, NoMemory>
-    requires room { 2 * length before.now + 1 ≤ ledger.old.room }
+    requires room { 2 * length before.now + 3 ≤ ledger.old.room }
     requires before { before.now ≡ mets D.planned places.old.items }
     requires shown { AllShown D.cells ledger.old tasks.old places.old.items }
     requires source { IsNode ledger.old.nodes p.0 }
@@ -238,7 +245,7 @@ fn step_copy<D: FaultDir + Drop>(
     requires node { IsNode ledger.old.nodes n.0 }
     requires sent { has_copy_task n.0 job (spread_at (open_merge seg.0 tasks.old.rows)) ≡ true }
     ensures shown { OnOk result (AllShown D.cells ledger.new tasks.new places.new.items) }
-    ensures ok { IfOk result (StepsCopyTo line seg by p n job
+    ensures ok { IfOk result (StepsCopyTo at line seg by p n job
         before.now (mets D.planned places.new.items) ledger.old
         (behind at before.now (mets D.planned places.new.items) ledger.old)
         ledger.new tasks.old tasks.new) }
@@ -290,7 +297,7 @@ pub fn next_merged<D: FaultDir + Drop>(
         unreachable!()
     };
     cluster.ended = true;
-    let before = met_before(alloc, &mut cluster.ledger, &cluster.places, 1)?;
+    let before = met_before(alloc, &mut cluster.ledger, &cluster.places, 3)?;
     let turn = step_copy(
         alloc,
         &mut cluster.ledger,
@@ -400,4 +407,106 @@ pub fn take_merged<D: FaultDir + Drop>(
     )?;
     cluster.ended = false;
     Ok(went)
+}
+
+// Ends a copy of a merged segment that runs, and its task, after which what is true of a cluster that runs is true again.
+fn end_there<D: FaultDir + Drop>(
+    ledger: &mut Ledger,
+    tasks: &mut Tasks,
+    places: &mut Vec<Option<NodePlace<D>>>,
+    at: At,
+    line: LineNo,
+    seg: SegNo,
+    by: Option<At>,
+    n: NodeNo,
+    job: u64,
+    before: &[(u64, u64)],
+) -> Result<(), NoMemory>
+    requires room { 2 * length before.now + 1 ≤ ledger.old.room }
+    requires before { before.now ≡ mets D.planned places.old.items }
+    requires shown { AllShown D.cells ledger.old tasks.old places.old.items }
+    requires legal { IsLegalPast ledger.old.nodes (printed ledger.old.log) }
+    requires node { IsNode ledger.old.nodes n.0 }
+    requires sent { has_copy_task n.0 job (spread_at (open_merge seg.0 tasks.old.rows)) ≡ true }
+    requires runs { RunsCopyOf seg.0 job (place_of places.old.items n.0) }
+    ensures shown { OnOk result (AllShown D.cells ledger.new tasks.new places.new.items) }
+    ensures ok { OnOk result (EndsCopyOf line seg by n job
+        (behind at before.now (mets D.planned places.new.items) ledger.old) ledger.new
+        tasks.old tasks.new) }
+    ensures err { OnErr result (ledger.new ≡ ledger.old) }
+{
+    drop_in(places, n, job);
+    end_task(ledger, tasks, places, at, line, seg, by, n, job, before)?;
+    Ok(())
+}
+
+// Ends a copy of a merged segment, of which not all of a file came, and its task, after which what is true of a cluster that runs is true again.
+fn lose_there<D: FaultDir + Drop>(
+    ledger: &mut Ledger,
+    tasks: &mut Tasks,
+    places: &mut Vec<Option<NodePlace<D>>>,
+    at: At,
+    line: LineNo,
+    seg: SegNo,
+    by: Option<At>,
+    n: NodeNo,
+    job: u64,
+    before: &[(u64, u64)],
+) -> Result<(), NoMemory>
+    requires room { 2 * length before.now + 1 ≤ ledger.old.room }
+    requires before { before.now ≡ mets D.planned places.old.items }
+    requires shown { AllShown D.cells ledger.old tasks.old places.old.items }
+    requires legal { IsLegalPast ledger.old.nodes (printed ledger.old.log) }
+    requires node { IsNode ledger.old.nodes n.0 }
+    requires sent { has_copy_task n.0 job (spread_at (open_merge seg.0 tasks.old.rows)) ≡ true }
+    ensures shown { OnOk result (AllShown D.cells ledger.new tasks.new places.new.items) }
+    ensures ok { OnOk result (EndsCopyOf line seg by n job
+        (behind at before.now (mets D.planned places.new.items) ledger.old) ledger.new
+        tasks.old tasks.new) }
+    ensures err { OnErr result (ledger.new ≡ ledger.old) }
+{
+    if !runs_in(places, n, job, seg) {
+        end_task(ledger, tasks, places, at, line, seg, by, n, job, before)?;
+        return Ok(());
+    }
+    end_there(ledger, tasks, places, at, line, seg, by, n, job, before)
+}
+
+/// Ends a copy of a merged segment, of which not all of a file came, and its task.
+pub fn lose_merged<D: FaultDir + Drop>(
+    alloc: Global,
+    cluster: &mut ClusterState<D>,
+    line: LineNo,
+    seg: SegNo,
+    by: Option<At>,
+    n: NodeNo,
+    job: u64,
+) -> Result<(), NoMemory>
+    requires running { cluster.old.ended ≡ false }
+    requires node { IsNode cluster.old.nodes n.0 }
+    requires sent { has_copy_task n.0 job
+        (spread_at (open_merge seg.0 cluster.old.rest.tasks.rows)) ≡ true }
+    ensures ok { OnOk result (EndsCopyTask line seg by n job cluster.old cluster.new) }
+    ensures err { OnErr result (IsEnded cluster.old cluster.new) }
+{
+    cluster.ledger.book().is_legal();
+    let Some(at) = cluster.ledger.merge_on(seg) else {
+        unreachable!()
+    };
+    cluster.ended = true;
+    let before = met_before(alloc, &mut cluster.ledger, &cluster.places, 1)?;
+    lose_there(
+        &mut cluster.ledger,
+        &mut cluster.tasks,
+        &mut cluster.places,
+        at,
+        line,
+        seg,
+        by,
+        n,
+        job,
+        before.as_slice(),
+    )?;
+    cluster.ended = false;
+    Ok(())
 }

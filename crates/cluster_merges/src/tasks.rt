@@ -7,18 +7,19 @@ ghost use Rattle.history_rules.specs.Lines.{entries_of_line};
 ghost use Rattle.history_book.specs.Log.{printed};
 ghost use Rattle.merge_tasks.specs.TaskLog.{carried_out};
 ghost use Rattle.merge_tasks.specs.Board.{open_merge, is_unwritten};
+ghost use Rattle.cluster_state.specs.DueFaults.{ArrivesBy};
 ghost use Rattle.cluster_state.specs.Run.{IsEnded};
 ghost use Rattle.cluster_merges.specs.MergePaths.{IsMergedOut, EndsBuild, TakesTask};
 ghost use Rattle.cluster_merges.specs.TaskCalls.{MergeLine, StartsAtPrimary, PrecopyTurns, PartTurns, CutTurns};
 
 use crate::cuts::cut_merge;
-use crate::precopies::{CopyTurn, next_merged, take_merged};
+use crate::precopies::{CopyTurn, lose_merged, next_merged, take_merged};
 use crate::starts::start_merge;
 use crate::takes::take_task;
 use crate::writes::ready_merge;
 use cluster_nodes::{FileTask, Went};
 use cluster_state::{ClusterState, Turn, refuse};
-use copy_job::Part;
+use copy_job::{JobFault, Part};
 use disk_model::FaultDir;
 use history_rules::Cause;
 use merge_tasks::Task;
@@ -138,7 +139,7 @@ pub fn precopy_next<D: FaultDir + Drop>(
     }
 }
 
-/// Puts a part into a copy of a merged segment. Done says that its task has ended.
+/// Puts what arrived of a file into a copy of a merged segment. Done says that its task has ended, also where not all of the file arrived.
 pub fn precopy_arrived<D: FaultDir + Drop>(
     state: &mut ClusterState<D>,
     alloc: Global,
@@ -147,21 +148,31 @@ pub fn precopy_arrived<D: FaultDir + Drop>(
     by: Option<At>,
     n: NodeNo,
     job: u64,
-    part: Part,
+    file: &FileTask,
+    arrived: Result<Part, JobFault>,
 ) -> Result<Turn<()>, NoMemory>
     requires running { state.old.ended ≡ false }
     requires node { IsNode state.old.nodes n.0 }
-    requires out { carried_out part.name state.old.log ≡ Some part.bytes }
-    requires meta { IsMetaOf part.bytes part.meta }
-    ensures ok { IfOk result (PartTurns line seg by n job state.old state.new) }
+    requires out { carried_out file.now.name state.old.log ≡ Some file.now.source }
+    requires meta { IsMetaOf file.now.source file.now.meta }
+    requires arrives { ArrivesBy file.now arrived }
+    ensures ok { IfOk result (PartTurns line seg by n job file.now.fate state.old state.new) }
     ensures err { OnErr result (IsEnded state.old state.new) }
 {
     if !state.tasks.has_copy_task(seg, n, job) {
         return Ok(Turn::Done);
     }
-    match take_merged(alloc, state, line, seg, by, n, job, part)? {
-        Went::Done(()) => Ok(Turn::Work(())),
-        Went::Failed => Ok(Turn::Done),
+    match arrived {
+        Ok(part) => {
+            match take_merged(alloc, state, line, seg, by, n, job, part)? {
+                Went::Done(()) => Ok(Turn::Work(())),
+                Went::Failed => Ok(Turn::Done),
+            }
+        }
+        Err(_) => {
+            lose_merged(alloc, state, line, seg, by, n, job)?;
+            Ok(Turn::Done)
+        }
     }
 }
 

@@ -15,9 +15,9 @@ ghost use Rattle.cluster_merges.specs.TaskMet.{mets, WritesBehind, GivesUpOf};
 ghost use Rattle.cluster_merges.specs.MergePaths.{IsMergedOut, EndsBuild, begun_log};
 ghost use Rattle.cluster_merges.specs.Sending.{spread_to, SendsOne, MaySendAll, SendsAll};
 
-use crate::met::{end_behind, met_before};
+use crate::met::end_behind;
 use cluster_nodes::{NodePlace, Went, files_last};
-use cluster_state::{ClusterState, has_risen, replicas, show_task_met};
+use cluster_state::{ClusterState, has_risen, met_before, replicas, show_task_met};
 use copy_state::CopyState;
 use disk_model::FaultDir;
 use history_book::{Inner, Step};

@@ -1,10 +1,9 @@
 -- A node that crashed, in its place.
-use Rattle.std.proofs.Common.{◌≡◌, ◌≢◌, ◌≤◌, ◌==◌, ℕ, Bool, true, false, List, [], Some, None, Option, Vec, Global, Result, Ok, Err, length, refl, ap, ◌∙◌, sym, subst, if◌then◌else◌}
+use Rattle.std.proofs.Common.{◌≡◌, ◌≢◌, ◌≤◌, ◌==◌, ℕ, Bool, List, [], Some, None, Option, Vec, Global, Result, Ok, Err, length, refl, ap, ◌∙◌, sym, subst, if◌then◌else◌}
 use Rattle.std.specs.Prelude.{OnOk, IsSomeAnd}
 use Rattle.std.proofs.lemmas.Bool.{eq-eqb}
 use Rattle.nrt_base.specs.declared.numbers.NodeNo.{NodeNo}
 use Rattle.disk_model.specs.Disk.{Cells, HasCrashed}
-use Rattle.disk_model.specs.Faults.{Plans, ended}
 use Rattle.history_rules.specs.Nodes.{is_at}
 use Rattle.cluster_nodes.specs.declared.held.HeldTicket.{HeldTicket}
 use Rattle.cluster_nodes.specs.declared.nodes.Node.TheVariants.{Down}
@@ -12,7 +11,7 @@ use Rattle.cluster_nodes.specs.declared.nodes.NodePlace.{NodePlace}
 use Rattle.cluster_nodes.specs.Places.{place_of, dir_of, IsSlot}
 use Rattle.cluster_nodes.specs.Outs.{want_at}
 use Rattle.cluster_nodes.specs.Ends.{PlaceOutlives, EndsWith}
-use Rattle.cluster_nodes.specs.Lives.{CrashesIn, EndsPlansIn}
+use Rattle.cluster_nodes.specs.Lives.{CrashesIn}
 use Rattle.cluster_nodes.proofs.Taking.{moved_one}
 
 module _ {D : Type 0} (cells : D → Cells) where
@@ -44,13 +43,13 @@ module _ {D : Type 0} (cells : D → Cells) where
       }
   crashed_in (Err e) primary old a b new n place dir held ends there none cm tm cn tn crashed = tt
 
-  -- and the plans for its disk ended
-  pub ended_in : {T E : Type 0} (planned : D → Plans) (result : Result T E) (primary : Option NodeNo) (old a b new : List (Option (NodePlace D))) (n : ℕ) (place : NodePlace D) (dir : D) (held : Vec HeldTicket Global) → EndsWith cells primary n old a
+  -- what a crash makes of its directory is so in its place
+  pub left_in : {T E : Type 0} (so : D → D → Type 0) (result : Result T E) (primary : Option NodeNo) (old a b new : List (Option (NodePlace D))) (n : ℕ) (place : NodePlace D) (dir : D) (held : Vec HeldTicket Global) → EndsWith cells primary n old a
       → place_of a n ≡ Some place → ((m : ℕ) → place_of new m ≡ (if n == m then Some (record { node = Down dir; held = held }) else place_of b m))
-      → OnOk result (planned dir ≡ ended (planned (dir_of place.node))) → OnOk result (EndsPlansIn planned n old new)
-  ended_in planned (Ok x) primary old a b new n place dir held ends there tn ended_so =
+      → OnOk result (so (dir_of place.node) dir) → OnOk result (IsSomeAnd (place_of old n) (λ x. IsSomeAnd (place_of new n) (λ y. so (dir_of x.node) (dir_of y.node))))
+  left_in so (Ok x) primary old a b new n place dir held ends there tn crashed =
       let left : NodePlace D = record { node = Down dir; held = held } in
       let was : place_of old n ≡ Some place = sym ends.here ∙ there in
       let now : place_of new n ≡ Some left = tn n ∙ ap (λ (t : Bool). if t then Some left else place_of b n) (eq-eqb n n refl) in
-      subst (λ (z : Option (NodePlace D) × Option (NodePlace D)). IsSomeAnd z.0 (λ x. IsSomeAnd z.1 (λ y. planned (dir_of y.node) ≡ ended (planned (dir_of x.node))))) (λ i. (sym was i, sym now i)) ended_so
-  ended_in planned (Err e) primary old a b new n place dir held ends there tn ended_so = tt
+      subst (λ (z : Option (NodePlace D) × Option (NodePlace D)). IsSomeAnd z.0 (λ x. IsSomeAnd z.1 (λ y. so (dir_of x.node) (dir_of y.node)))) (λ i. (sym was i, sym now i)) crashed
+  left_in so (Err e) primary old a b new n place dir held ends there tn crashed = tt

@@ -1,17 +1,10 @@
 -- The names of the files in a node's directory.
-use Rattle.std.specs.Prelude.{◌≡◌, List, Option, Some, None, is_some}
-use Rattle.std.specs.List.Sorted.{IsStrictlySortedBy}
-use Rattle.std.specs.Cmp.Lexicographic.{slice_cmp}
-use Rattle.std.specs.Ordering.{nat_cmp}
-use Rattle.disk_model.specs.Disk.{Name, Cells, is_among}
+use Rattle.std.specs.Prelude.{List, Option, Some, None}
+use Rattle.disk_model.specs.Disk.{Name, Cells}
+pub use Rattle.disk_model.specs.Listed.{AreNamesOf}
 use Rattle.cluster_nodes.specs.declared.nodes.Node.{Node}
 use Rattle.cluster_nodes.specs.declared.nodes.Node.TheVariants.{Primary, Replica, Down}
 use Rattle.cluster_nodes.specs.declared.nodes.NodePlace.{NodePlace}
-
--- the names are just those that stand in the directory, ascending
-pub record AreNamesOf (cells : Cells) (names : List Name) : Type 0 where
-  pub told : (q : Name) → is_among names q ≡ is_some (cells q).now
-  pub ascending : IsStrictlySortedBy (slice_cmp nat_cmp) names
 
 module _ {D : Type 0} where
   -- a node's directory

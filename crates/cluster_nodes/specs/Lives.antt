@@ -6,7 +6,7 @@ use Rattle.nrt_base.specs.Causes.{Rose}
 use Rattle.nrt_base.specs.declared.doc.Doc.{Doc}
 use Rattle.nrt_base.specs.declared.numbers.NodeNo.{NodeNo}
 use Rattle.nrt_base.specs.declared.numbers.Version.{Version}
-use Rattle.disk_model.specs.Disk.{Name, Content, Cells, HasCrashed, reads_of}
+use Rattle.disk_model.specs.Disk.{Name, Content, Cells, Image, HasCrashed, restarted, reads_of}
 use Rattle.disk_model.specs.Faults.{Plans, ended}
 use Rattle.segment_infos.specs.Files.{files_of_segment}
 use Rattle.seg_reader.specs.Stands.{StandsFor}
@@ -40,6 +40,10 @@ module _ {D : Type 0} where
   -- the faults that were planned for the node's disk ended with it
   abbrev pub EndsPlansIn : (D → Plans) → ℕ → List (Option (NodePlace D)) → List (Option (NodePlace D)) → Type 0
   EndsPlansIn planned n old new = IsSomeAnd (place_of old n) (λ x. IsSomeAnd (place_of new n) (λ y. planned (dir_of y.node) ≡ ended (planned (dir_of x.node))))
+
+  -- the node's directory is what a crash with this number leaves of it
+  abbrev pub CrashesByPick : (D → Cells) → (D → ℕ → Image) → (n pick : ℕ) → List (Option (NodePlace D)) → List (Option (NodePlace D)) → Type 0
+  CrashesByPick cells leaves n pick old new = IsSomeAnd (place_of old n) (λ x. IsSomeAnd (place_of new n) (λ y. cells (dir_of y.node) ≡ restarted (leaves (dir_of x.node) pick)))
 
   -- a replica opened on a directory: it stands at the point that this shows, and nothing was done with it
   pub record OpensOn (cells : D → Cells) (dir : D) (r : ReplicaParts D) : Type 0 where

@@ -1,5 +1,5 @@
 -- Nodes by their numbers, from 1, and what they search.
-use Rattle.std.specs.Prelude.{ℕ, zero, suc, ◌≤◌, List, [], Option, Some, None, length, ⊤}
+use Rattle.std.specs.Prelude.{ℕ, zero, suc, ◌≡◌, ◌≤◌, List, [], Option, Some, None, IsSomeAnd, length, ⊤}
 use Rattle.std.specs.List.{slice_get}
 use Rattle.seg_reader.specs.Shown.{Shown}
 use Rattle.commit_steps.specs.declared.stage.CommitBook.{CommitBook}
@@ -43,6 +43,11 @@ module _ {D : Type 0} where
   searchers_of (Primary p) = Some p.searchers
   searchers_of (Replica r) = Some r.searchers
   searchers_of (Down d) = None
+
+  -- these are the segments that the node in a place searches
+  abbrev pub AreReadersAt : Option (NodePlace D) → List Shown → Type 0
+  AreReadersAt None segs = ⊥
+  AreReadersAt (Some place) segs = IsSomeAnd (searchers_of place.node) (λ s. segs ≡ s.point.readers)
 
   -- its directory
   abbrev pub dir_of : Node D → D

@@ -34,14 +34,17 @@ fn same_key(a: HeldKey, b: HeldKey) -> bool
     }
 }
 
-/// The number of the ticket that is held for this.
+/// The number of the ticket that is held for this. The newest tickets stand last, and are looked at first.
 pub fn number_held(held: &[HeldTicket], key: HeldKey) -> Option<u64>
     ensures { result ≡ held_number held.now key }
 {
-    for row in held {
+    let mut left = held.len();
+    while left > 0 {
+        let row = &held[left - 1];
         if same_key(row.key, key) {
             return Some(row.number);
         }
+        left -= 1;
     }
     None
 }
@@ -51,7 +54,7 @@ pub fn hold(held: &mut Vec<HeldTicket>, key: HeldKey, number: u64) -> Result<(),
     ensures { OnOk result ((k : _) → held_number held.new.items k
         ≡ (if same_key key k then Some number else held_number held.old.items k)) }
 {
-    held.insert(0, HeldTicket { key, number })?;
+    held.push(HeldTicket { key, number })?;
     Ok(())
 }
 

@@ -1,12 +1,13 @@
 //! Crashes and reopenings of nodes in their places.
 
-ghost use Rattle.std.specs.Prelude.{◌≡◌, ◌≢◌, true, None, Some, OnOk, IfOk};
+ghost use Rattle.std.specs.Prelude.{◌≡◌, ◌≢◌, true, false, None, Some, OnOk, IfOk};
+ghost use Rattle.disk_model.specs.Disk.{reads_of};
 ghost use Rattle.cluster_nodes.specs.declared.nodes.NodePlace.{NodePlace};
-ghost use Rattle.replica_opening.specs.Opening.{IsDiskFault};
+ghost use Rattle.replica_opening.specs.Opening.{IsDiskFault, IsStartCutOff, CanOpen};
 ghost use Rattle.replica_opening.specs.Opened.{IsSettledOn};
 ghost use Rattle.cluster_nodes.specs.Places.{place_of, dir_of, IsSlot};
 ghost use Rattle.cluster_nodes.specs.Ends.{CanEnd};
-ghost use Rattle.cluster_nodes.specs.Lives.{CrashesIn, EndsPlansIn, ReopensIn, StaysDownIn};
+ghost use Rattle.cluster_nodes.specs.Lives.{CrashesIn, EndsPlansIn, CrashesByPick, ReopensIn, StaysDownIn};
 ghost use Rattle.cluster_nodes.specs.Went.{ByWent};
 
 use crate::ends::end_with;
@@ -43,6 +44,8 @@ pub fn crash_in<D: FaultDir + Drop>(
     ensures crashes { OnOk result
         (CrashesIn D.cells primary n.0 places.old.items places.new.items) }
     ensures plans { OnOk result (EndsPlansIn D.planned n.0 places.old.items places.new.items) }
+    ensures picked { OnOk result (CrashesByPick D.cells D.leaves n.0 pick
+        places.old.items places.new.items) }
 {
     end_with(alloc, places, primary, n)?;
     let NodePlace {
@@ -58,14 +61,18 @@ pub fn crash_in<D: FaultDir + Drop>(
     crashed
 }
 
-// Whether the disk failed: else no memory was found, or the directory is none that opens.
+// Whether the disk failed where an opening was cut off: else no memory was found.
 fn has_disk_failed(fault: StartFault) -> bool
-    ensures { result ≡ true → IsDiskFault fault }
+    requires { IsStartCutOff fault }
+    ensures failed { result ≡ true → IsDiskFault fault }
+    ensures memory { result ≡ false → fault ≡ StartFault.Memory }
 {
     match fault {
+        StartFault::Memory => false,
         StartFault::Failed => true,
         StartFault::Recover(RecoverFault::Failed) => true,
-        _ => false,
+        StartFault::Recover(_) => unreachable!(),
+        StartFault::Segment(_, _) => unreachable!(),
     }
 }
 
@@ -80,6 +87,8 @@ pub fn reopen_in<D: Dir + Drop>(
     requires there { place_of places.old.items n.0 ≢ None }
     requires settled { (place : NodePlace D) → place_of places.old.items n.0 ≡ Some place
         → IsSettledOn (D.cells (dir_of place.node)) }
+    requires opens { (place : NodePlace D) → place_of places.old.items n.0 ≡ Some place
+        → CanOpen (reads_of (D.cells (dir_of place.node))) }
     ensures { IfOk result (ByWent
         (λ v. ReopensIn D.cells n.0 v places.old.items places.new.items)
         (StaysDownIn D.cells D.faults n.0 places.old.items places.new.items)) }

@@ -3,6 +3,7 @@
 use bytes::Bytes;
 use copy_state::FileMetaData;
 use file_names::FileName;
+use link_model::Fate;
 use nrt_base::{LineNo, NodeNo, Version};
 
 /// A job that copies a point to a node.
@@ -14,12 +15,13 @@ pub struct CopyTask {
     pub line: LineNo,
 }
 
-/// A file that is to be copied, with the bytes of its source.
+/// A file that is to be copied, with the bytes of its source and what becomes of it.
 #[derive(Debug, Drop)]
 pub struct FileTask {
     pub name: FileName,
     pub source: Bytes,
     pub meta: FileMetaData,
+    pub fate: Fate,
 }
 
 /// A commit of a node, at the version that it searched.

@@ -33,7 +33,7 @@ use Rattle.cluster_nodes.specs.Commits.{KeepsBook, StepsBook, CommitsIn, HasStag
 use Rattle.cluster_nodes.specs.Places.{place_of, disk_of, disk_at}
 use Rattle.cluster_nodes.specs.declared.went.Went.{Went}
 use Rattle.cluster_nodes.specs.declared.went.Went.TheVariants.{Done as Given, Failed as Broken}
-use Rattle.cluster_state.specs.Run.{Rest, Run}
+use Rattle.cluster_state.specs.Run.{Run}
 use Rattle.cluster_state.specs.Lives.{StepsCommit}
 use Rattle.cluster_state.specs.LifeCalls.{CommitSteps}
 use Rattle.cluster_state.proofs.LifeRows.{commit_done, commit_goes_on, commit_stops}
@@ -189,10 +189,6 @@ pub stands_is : {D : Type 0} {cells : D → Cells} {places : List (Option (NodeP
     → ClusterStands cells size places cut board log → ClusterStands cells many places was board now
 stands_is {cells = cells} {places = places} {board = board} nodes cuts logs stands =
     subst (λ (z : ℕ × (Bool × Log)). ClusterStands cells z.0 places z.1.0 board z.1.1) (λ i. (sym nodes i, (sym cuts i, sym logs i))) stands
-
--- what is true of a cluster that runs
-pub running_has : {X : Type 0} {r : Run} {ended : Bool} {nodes : ℕ} {log : Log} {rest : Rest} → record { ended = ended; nodes = nodes; log = log; rest = rest } ≡ r → r.ended ≡ false → (ended ≡ false → X) → X
-running_has view running all = all (ap (λ (x : Run). x.ended) view ∙ running)
 
 -- a commit may begin
 pub may_begin : (size : ℕ) (past : Past) (at : At) (n : NodeNo) (v : Version) → IsFresh at past → IsNode size n.0 → is_running n.0 past ≡ true → v.0 ≡ version_of n.0 past → commit_in_flight n.0 past ≡ None → KeepsRule size past at (Committing n v)

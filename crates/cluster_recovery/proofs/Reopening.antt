@@ -21,12 +21,13 @@ use Rattle.commit_steps.specs.Book.{shown_by}
 use Rattle.commit_steps.specs.Commits.{HasCommit}
 use Rattle.commit_steps.specs.Found.{ShowsNothing}
 use Rattle.commit_steps.proofs.Beside.{sound_images}
-use Rattle.searcher_switch.proofs.Standing.{stands_along}
+use Rattle.searcher_switch.proofs.Standing.{stands_along, segments_along}
 use Rattle.searcher_switch.specs.declared.open.Open.{Open}
 use Rattle.index_primary.specs.declared.states.Out.{Out}
-use Rattle.replica_opening.specs.Opening.{FindsPoint, number_of_last}
+use Rattle.replica_opening.specs.Opening.{FindsPoint, CanOpen, number_of_last}
 use Rattle.replica_opening.specs.Opened.{IsSettledOn}
 use Rattle.replica_opening.proofs.Clearings.{one_found}
+use Rattle.replica_opening.proofs.Opens.{opens_commit}
 use Rattle.replica_node.specs.declared.job.PointJob.{PointJob}
 use Rattle.replica_node.specs.declared.parts.ReplicaParts.{ReplicaParts}
 use Rattle.replica_node.specs.Starting.{SearchesJust}
@@ -264,6 +265,18 @@ module _ {D : Type 0} (cells : D → Cells) (source : Name → Content) (size : 
       flight = subst (λ (a : Option At). StageShows source (printed now) n.0 a r.commits.stage) (sym (ap (without_at at) none)) (subst (StageShows source (printed now) n.0 None) (sym opens.fresh.stage) tt);
     }
 
+-- ---- a directory that opens
+
+-- the files of its point read as at the source, so they are there and its segments read
+opens_there : {D : Type 0} (cells : D → Cells) (source : Name → Content) (past : Past) (n : ℕ) (dir : D) → DirShows source cells past n dir → CanOpen (reads_of (cells dir))
+opens_there cells source past n dir d = by d.number d.finds
+  where
+    by : (number : Option ℕ) → FindsPoint (reads_of (cells dir)) number d.infos → CanOpen (reads_of (cells dir))
+    by None finds = inl finds.0
+    by (Some k) finds =
+        let stands = d.point.point.stands in
+        inr (opens_commit (reads_of (cells dir)) k d.infos stands.segs finds (λ q named. (d.sourced q named).1) (segments_along source (reads_of (cells dir)) d.infos.segs stands.segs (λ q named. (d.sourced q named).0) stands.stands.each))
+
 -- ---- all nodes
 
 module _ {D : Type 0} (cells : D → Cells) (size : ℕ) (log : Log) (old new : List (Option (NodePlace D))) (at : At) (n : NodeNo) (v : Version) (lasting : FilesLast)
@@ -288,6 +301,9 @@ module _ {D : Type 0} (cells : D → Cells) (size : ℕ) (log : Log) (old new : 
 
   pub is_settled : (place : NodePlace D) → place_of old n.0 ≡ Some place → IsSettledOn (cells (dir_of place.node))
   is_settled place there = (dir_at place there).settled
+
+  pub opens_at : (place : NodePlace D) → place_of old n.0 ≡ Some place → CanOpen (reads_of (cells (dir_of place.node)))
+  opens_at place there = opens_there cells files.source (printed log) n.0 (dir_of place.node) (dir_at place there)
 
   module _ (b : ReopensIn cells n.0 v old new) where
     abbrev after : Log
@@ -409,6 +425,9 @@ module _ {D : Type 0} (cells : D → Cells) (r : Run) (ended : Bool) (b0 : Sheet
 
   pub settled_there : (place : NodePlace D) → place_of old n.0 ≡ Some place → IsSettledOn (cells (dir_of place.node))
   settled_there = is_settled cells r.nodes r.log old old at n (record { 0 = 0 }) lasting legal_now turns_now fresh_now node down s f
+
+  pub opens_where : (place : NodePlace D) → place_of old n.0 ≡ Some place → CanOpen (reads_of (cells (dir_of place.node)))
+  opens_where = opens_at cells r.nodes r.log old old at n (record { 0 = 0 }) lasting legal_now turns_now fresh_now node down s f
 
   module _ (v : Version) (new : List (Option (NodePlace D))) (b : ReopensIn cells n.0 v old new) where
     pub rule_there : KeepsRule r.nodes (printed r.log) at (Reopened n v)

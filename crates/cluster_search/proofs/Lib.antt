@@ -6,6 +6,7 @@ mod Opened
 mod Opening
 mod PointNames
 mod ReadRows
+mod ShownRows
 mod TicketFiles
 mod TicketPaths
 mod Without

@@ -3,10 +3,12 @@
 
 mod line_lists;
 mod lists;
+mod node_documents;
 mod reads;
 mod searches;
 mod tickets;
 
 pub use line_lists::files;
+pub use node_documents::documents_of;
 pub use searches::{answer_end, ask_start, search_start};
 pub use tickets::{ticket_close, ticket_open};

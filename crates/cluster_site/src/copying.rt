@@ -2,7 +2,7 @@
 
 use crate::site::Site;
 use cluster_state::{CopyTask, FileTask, SettleTask, Turn};
-use copy_job::Part;
+use copy_job::{JobFault, Part};
 use disk_model::FaultDir;
 use history_rules::Event;
 use nrt_base::{At, LaneNo, NoMemory, NodeNo};
@@ -21,6 +21,7 @@ impl<D: FaultDir + Drop> Site<D> {
     ghost use Rattle.script_serving.specs.declared.script.LineCommand.TheVariants.{Copy, Settle};
     ghost use Rattle.cluster_state.specs.Given.{SettleTask};
     ghost use Rattle.cluster_state.specs.Run.{IsEnded};
+    ghost use Rattle.cluster_state.specs.DueFaults.{MeetsFate, ArrivesBy};
     ghost use Rattle.cluster_state.specs.FilesOut.{file_out};
     ghost use Rattle.cluster_state.specs.Copies.{newest_of, IsCopying, JobRuns};
     ghost use Rattle.cluster_state.specs.Settles.{IsSettling};
@@ -91,24 +92,27 @@ impl<D: FaultDir + Drop> Site<D> {
         self.cluster.copy_next(alloc, at, task)
     }
 
-    /// Takes a part of a file that was handed out. Done says that the job has ended: the line was refused, also where a disk failed, by a plan
-    /// that the history shows; or it is a settle and the node has crashed.
+    /// Takes what arrived of a file that was handed out. Done says that the job has ended: the line was refused, also where the link failed, the
+    /// file was damaged or a disk failed, by a plan that the history shows; or it is a settle and the node has crashed.
     pub fn copy_arrived(
         &mut self,
         alloc: Global,
         at: At,
         task: &CopyTask,
-        part: Part,
+        file: &FileTask,
+        arrived: Result<Part, JobFault>,
     ) -> Result<Turn<()>, NoMemory>
         requires running { self.old.run.ended ≡ false }
         requires copying { IsCopying at self.old.run.log task.now }
-        requires out { file_out at task.now.node.0 task.now.job part.name self.old.run.log
-            ≡ Some part.bytes }
-        requires meta { IsMetaOf part.bytes part.meta }
+        requires out { file_out at task.now.node.0 task.now.job file.now.name self.old.run.log
+            ≡ Some file.now.source }
+        requires meta { IsMetaOf file.now.source file.now.meta }
+        requires met { MeetsFate file.now.fate at task.now.node.0 (printed self.old.run.log) }
+        requires arrives { ArrivesBy file.now arrived }
 
         // a job that runs, and one that was stopped
         ensures ok { IfOk result (λ turn. (row : JobRow) → JobRuns self.old.run.log row
-            → row.job.at ≡ at → JobTakes row.job part.name self.old.run self.new.run turn) }
+            → row.job.at ≡ at → JobTakes row.job file.now self.old.run self.new.run turn) }
         ensures stops { IfOk result (λ turn. (row : JobRow) (begun : Event) (log : Log)
             → job_of at.lane.0 self.old.run.log ≡ Some row
             → start_entry at (printed self.old.run.log) ≡ Some begun
@@ -122,7 +126,7 @@ impl<D: FaultDir + Drop> Site<D> {
             → OnOk result (DoesAtSite command at self.old self.new) }
     {
         self.cluster.asked_to_copy(at, task);
-        self.cluster.copy_arrived(alloc, at, task, part)
+        self.cluster.copy_arrived(alloc, at, task, file, arrived)
     }
 
     /// Starts a settle.

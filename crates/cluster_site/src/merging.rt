@@ -2,7 +2,7 @@
 
 use crate::site::Site;
 use cluster_state::{FileTask, Turn};
-use copy_job::Part;
+use copy_job::{JobFault, Part};
 use disk_model::FaultDir;
 use merge_tasks::{Sent, Task};
 use nrt_base::{At, NoMemory};
@@ -19,6 +19,7 @@ impl<D: FaultDir + Drop> Site<D> {
     ghost use Rattle.merge_tasks.specs.TaskLog.{carried_out};
     ghost use Rattle.history_book.specs.Told.{counted_for};
     ghost use Rattle.merge_tasks.specs.Board.{open_merge, is_unwritten};
+    ghost use Rattle.cluster_state.specs.DueFaults.{ArrivesBy};
     ghost use Rattle.cluster_state.specs.Run.{IsEnded};
     ghost use Rattle.cluster_merges.specs.MergePaths.{IsMergedOut, EndsBuild, TakesTask};
     ghost use Rattle.cluster_merges.specs.TaskCalls.{MergeLine, PrecopyTurns, PartTurns, CutTurns, DrainTurns};
@@ -92,27 +93,30 @@ impl<D: FaultDir + Drop> Site<D> {
         self.cluster.precopy_next(alloc, task, copy)
     }
 
-    /// Puts a part into the copy of a task. Done says that the task has ended, also where the disk of the node failed, by a plan that the
-    /// history shows.
+    /// Puts what arrived of a file into the copy of a task. Done says that the task has ended, also where the link failed, the file was damaged or
+    /// the disk of the node failed, by a plan that the history shows.
     pub fn precopy_arrived(
         &mut self,
         alloc: Global,
         task: &Task,
         copy: Sent,
-        part: Part,
+        file: &FileTask,
+        arrived: Result<Part, JobFault>,
     ) -> Result<Turn<()>, NoMemory>
         requires running { self.old.run.ended ≡ false }
         requires node { IsNode self.old.run.nodes copy.node.0 }
-        requires out { carried_out part.name self.old.run.log ≡ Some part.bytes }
-        requires meta { IsMetaOf part.bytes part.meta }
+        requires out { carried_out file.now.name self.old.run.log ≡ Some file.now.source }
+        requires meta { IsMetaOf file.now.source file.now.meta }
+        requires arrives { ArrivesBy file.now arrived }
         ensures ok { IfOk result (PartTurns task.now.line task.now.seg task.now.by
-            copy.node copy.job self.old.run self.new.run) }
+            copy.node copy.job file.now.fate self.old.run self.new.run) }
         ensures err { OnErr result (IsEnded self.old.run self.new.run) }
 
         // what its taker is owed
         ensures does { OnOk result (DoesTaskAtSite task.now.by self.old self.new) }
     {
-        self.cluster.precopy_arrived(alloc, task, copy, part)
+        self.cluster
+            .precopy_arrived(alloc, task, copy, file, arrived)
     }
 
     /// Cuts the merge of a task over, or gives it up where the primary's disk fails, by a plan that the history shows. Busy comes exactly where

@@ -16,9 +16,9 @@ use crate::accepting::memory_alone;
 use cluster_core::Cluster;
 use disk_model::{Dir, FaultDir};
 use documents::Op;
+use history_facts::operation_count;
 use history_rules::{Entry, Event};
 use nrt_base::{At, NoMemory, NodeNo, Share, Version};
-use point_counts::operation_count;
 use std::alloc::Global;
 use trans_log::{LogOp, TransLog};
 

@@ -1,19 +1,21 @@
 -- The faults that a file meets as it is handed out: their rules, what they leave, and that what becomes of a file follows them.
 use Rattle.std.proofs.Common.{◌≡◌, ◌==◌, ◌&&◌, ◌||◌, ◌⊎◌, ℕ, Bool, true, false, List, [], ◌∷◌, inl, inr, Option, Some, None, refl, ap, ◌∙◌, sym, subst, not, nat_le, if◌then◌else◌, arith}
-use Rattle.std.proofs.lemmas.Bool.{and_parts, eqb-true, eq-eqb, or_right}
+use Rattle.std.proofs.Math.Bool.{and-false}
+use Rattle.std.proofs.lemmas.Bool.{false≢true, and_parts, eqb-true, eq-eqb, or_right}
 use Rattle.std.proofs.lemmas.Bool.Decides.{nat_tests}
 use Rattle.nrt_base.specs.declared.numbers.At.{At}
 use Rattle.nrt_base.specs.declared.numbers.NodeNo.{NodeNo}
 use Rattle.disk_model.specs.Disk.{Name, Cells, same}
 use Rattle.history_rules.specs.declared.cause.FaultKind.{FaultKind}
-use Rattle.history_rules.specs.declared.cause.FaultKind.TheVariants.{Link, Damage}
+use Rattle.history_rules.specs.declared.cause.FaultKind.TheVariants.{Link, Damage, Disk, Stop}
 use Rattle.history_rules.specs.declared.entry.Event.{Event}
 use Rattle.history_rules.specs.declared.entry.Event.TheVariants.{Copying, Settling, Fault}
 use Rattle.history_rules.specs.declared.entry.Entry.{Entry}
 use Rattle.history_rules.specs.Nodes.{Past, IsNode, is_at, is_running, primary_of}
 use Rattle.history_rules.specs.Lines.{same_at, start_entry, before_start, last_of_line, is_answered}
-use Rattle.history_rules.specs.Faults.{is_planned, is_of_disk, has_fault, same_kind}
+use Rattle.history_rules.specs.Faults.{is_planned, is_of_disk, has_damage, has_fault, has_file_fault, same_kind}
 use Rattle.history_rules.specs.Rules.{MayFault, copies_to, fetches_at, is_merging, is_unbegun}
+use Rattle.history_rules.proofs.AnyLemmas.{none_more}
 use Rattle.history_rules.proofs.FaultLaws.{both}
 use Rattle.history_tables.proofs.RowLemmas.{same_at_is, same_at_self}
 use Rattle.link_model.specs.declared.fate.Fate.{Fate}
@@ -25,12 +27,12 @@ use Rattle.history_book.specs.Jobs.{AreInside, FollowsFault, IsInside, StartsJob
 use Rattle.history_book.specs.Log.{Log, printed}
 use Rattle.merge_tasks.specs.declared.fates.FilePlans.{FilePlans}
 use Rattle.merge_tasks.specs.Board.{Board}
-use Rattle.merge_tasks.specs.Fates.{fate_by, file_plans}
+use Rattle.merge_tasks.specs.Fates.{fate_by, file_plans, used_up}
 use Rattle.cluster_nodes.specs.declared.nodes.NodePlace.{NodePlace}
-use Rattle.cluster_state.specs.DueFaults.{with_due}
+use Rattle.cluster_state.specs.DueFaults.{MeetsFate, with_due}
 use Rattle.cluster_state.specs.FilesOut.{is_job, fate_out, handed_fate}
-use Rattle.cluster_state.specs.Met.{MayMeet, ClusterStands, fault_by, fault_on}
-use Rattle.cluster_state.proofs.Faulted.{fault_stands}
+use Rattle.cluster_state.specs.Met.{MayMeet, ClusterStands, fault_by, fault_on, with_met}
+use Rattle.cluster_state.proofs.Faulted.{fault_stands, met_keeps}
 
 -- ---- their rules
 
@@ -108,6 +110,30 @@ pub due_stands : {D : Type 0} (cells : D → Cells) (size : ℕ) (places : List 
 due_stands cells size places cut board task at n log was =
     due_has (ClusterStands cells size places cut board) task at (λ m kind l s. fault_stands cells size places cut board task at m kind l s) n log was
 
+-- the plans for files are behind faults of disks those from before
+pub plans_still : (task : Bool) (n : ℕ) (by : At) (olds news : List (ℕ × ℕ)) (log : Log) → file_plans n (with_met task by 1 olds news log) ≡ file_plans n log
+plans_still task n by olds news log = met_keeps (λ l. file_plans n l ≡ file_plans n log) task by (λ m kind l disk is. of_task task m kind l disk ∙ is) 1 olds news log refl
+  where
+    step : (b : Bool) (kind : FaultKind) (p : FilePlans) → is_of_disk kind ≡ true → (if b then used_up kind p else p) ≡ p
+    step true Disk p disk = refl
+    step true Stop p disk = refl
+    step true Link p disk = absurd (false≢true disk)
+    step true Damage p disk = absurd (false≢true disk)
+    step false kind p disk = refl
+
+    of_task : (t : Bool) (m : ℕ) (kind : FaultKind) (l : Log) → is_of_disk kind ≡ true → file_plans n (fault_by t by m kind ∷ l) ≡ file_plans n l
+    of_task true m kind l disk = step (m == n) kind (file_plans n l) disk
+    of_task false m kind l disk = step (m == n) kind (file_plans n l) disk
+
+-- where the next file is to come whole none is due
+pub none_due : (task : Bool) (at : At) (n : ℕ) (log : Log) → fate_by (file_plans n log) ≡ Whole → with_due task at n log ≡ log
+none_due task at n log whole = by ((file_plans n log).link == 1) ((file_plans n log).damage == 1) whole
+  where
+    by : (link damage : Bool) → (if link then Fail else if damage then DamageFate (file_plans n log).byte else Whole) ≡ Whole → fault_on damage task at n Damage (fault_on link task at n Link log) ≡ log
+    by true damage is = absurd (let same : Fail ≡ Whole = is in cc)
+    by false true is = absurd (let same : DamageFate (file_plans n log).byte ≡ Whole = is in cc)
+    by false false is = refl
+
 -- ---- what becomes of a file follows them
 
 has_more : (node : ℕ → Bool) (kind : FaultKind → Bool) (at : At) (e : Entry) (past : Past) → has_fault node kind at past ≡ true → has_fault node kind at (e ∷ past) ≡ true
@@ -129,6 +155,44 @@ due_followed task at n p log = by (p.link == 1) (p.damage == 1)
     by : (link damage : Bool) → FollowsFault (if link then Fail else if damage then DamageFate p.byte else Whole) at n (printed (fault_on damage task at n Damage (fault_on link task at n Link log)))
     by true damage = met_more task damage at n Link Damage (fault_by task at n Link ∷ log) (met_here task at n Link log refl)
     by false true = met_here task at n Damage log refl
+    by false false = tt
+
+-- a line that met no fault in a file for the node meets what makes this of its next file
+not_link : (n : ℕ) (at : At) (past : Past) → has_file_fault n at past ≡ false → has_fault (λ m. m == n) (same_kind Link) at past ≡ false
+not_link n at past none = none_more
+    (λ e. elim e.event [ Fault m met ↦ (m.0 == n) && not (is_of_disk met) | _ ↦ false ] && same_at e.at at)
+    (λ e. elim e.event [ Fault m met ↦ (m.0 == n) && same_kind Link met | _ ↦ false ] && same_at e.at at)
+    (λ e hurt. by_event e.event (same_at e.at at) hurt) past none
+  where
+    by_event : (x : Event) (s : Bool) → (elim x [ Fault m met ↦ (m.0 == n) && same_kind Link met | _ ↦ false ] && s) ≡ true
+        → (elim x [ Fault m met ↦ (m.0 == n) && not (is_of_disk met) | _ ↦ false ] && s) ≡ true
+    by_event (Fault m Link) s hurt = hurt
+    by_event (Fault m Damage) s hurt = absurd (false≢true (sym (ap (λ (b : Bool). b && s) (and-false (m.0 == n))) ∙ hurt))
+    by_event (Fault m Disk) s hurt = absurd (false≢true (sym (ap (λ (b : Bool). b && s) (and-false (m.0 == n))) ∙ hurt))
+    by_event (Fault m Stop) s hurt = absurd (false≢true (sym (ap (λ (b : Bool). b && s) (and-false (m.0 == n))) ∙ hurt))
+    by_event x s hurt = absurd (false≢true hurt)
+
+damaged_here : (task : Bool) (at : At) (n : ℕ) (log : Log) → has_fault (λ m. m == n) (same_kind Link) at (printed log) ≡ false → has_damage (λ m. m == n) at (printed (fault_by task at n Damage ∷ log)) ≡ true
+damaged_here task at n log none = by task
+  where
+    unlinked : (t : Bool) → has_fault (λ m. m == n) (same_kind Link) at (printed (fault_by t at n Damage ∷ log)) ≡ false
+    unlinked true = ap (λ (b : Bool). (b && same_at at at) || has_fault (λ m. m == n) (same_kind Link) at (printed log)) (and-false (n == n)) ∙ none
+    unlinked false = ap (λ (b : Bool). (b && same_at at at) || has_fault (λ m. m == n) (same_kind Link) at (printed log)) (and-false (n == n)) ∙ none
+
+    head : (t rest : Bool) → (((((n == n) && not (has_fault (λ m. m == n) (same_kind Link) at (printed (fault_by t at n Damage ∷ log)))) && true) && same_at at at) || rest) ≡ true
+    head t rest = ap (λ (z : Bool × (Bool × Bool)). (((z.0 && not z.1.0) && true) && z.1.1) || rest) (λ i. (eq-eqb n n refl i, (unlinked t i, same_at_self at i)))
+
+    by : (t : Bool) → has_damage (λ m. m == n) at (printed (fault_by t at n Damage ∷ log)) ≡ true
+    by true = head true _
+    by false = head false _
+
+pub due_meets : (task : Bool) (at : At) (n : ℕ) (p : FilePlans) (log : Log) → has_file_fault n at (printed log) ≡ false
+    → MeetsFate (fate_by p) at n (printed (fault_on (p.damage == 1) task at n Damage (fault_on (p.link == 1) task at n Link log)))
+due_meets task at n p log none = by (p.link == 1) (p.damage == 1)
+  where
+    by : (link damage : Bool) → MeetsFate (if link then Fail else if damage then DamageFate p.byte else Whole) at n (printed (fault_on damage task at n Damage (fault_on link task at n Link log)))
+    by true damage = met_more task damage at n Link Damage (fault_by task at n Link ∷ log) (met_here task at n Link log refl)
+    by false true = damaged_here task at n log (not_link n at (printed log) none)
     by false false = tt
 
 follows_more : (fate : Fate) (at : At) (n : ℕ) (e : Entry) (past : Past) → FollowsFault fate at n past → FollowsFault fate at n (e ∷ past)

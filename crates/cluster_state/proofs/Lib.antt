@@ -1,3 +1,4 @@
+pub mod Arrivals
 pub mod AtWork
 pub mod Behind
 pub mod BookLaws

@@ -14,9 +14,11 @@ use Rattle.history_book.specs.Jobs.{job_of}
 use Rattle.cluster_nodes.specs.declared.tasks.SettleTask.{SettleTask}
 use Rattle.cluster_state.specs.Run.{Run}
 use Rattle.cluster_state.specs.Met.{failures_by_plan, fault_by}
+use Rattle.cluster_state.specs.DueFaults.{with_due}
 use Rattle.cluster_state.specs.GivesUp.{met_log}
 use Rattle.cluster_state.specs.Settles.{IsLeft, IsSettling}
 use Rattle.cluster_state.proofs.Faulted.{met_has}
+use Rattle.cluster_state.proofs.FilesDue.{due_has}
 use Rattle.cluster_state.proofs.Behind.{open_over}
 
 high_over : (at by : At) (n : NodeNo) (kind : FaultKind) (past : Past) → highest_switched at (faulted by n kind past) ≡ highest_switched at past
@@ -64,3 +66,20 @@ module _ (at : At) (old new : Run) where
 
   pub met_settling : (size : ℕ) (task : SettleTask) → IsSettling size (printed old.log) at task → IsSettling size (printed (met_log at old new)) at task
   met_settling size task was = met_all (λ l. IsSettling size (printed l) at task) (λ n kind l s. settling_over size (printed l) at at (record { 0 = n }) kind task s) was
+
+-- so they are behind the faults that the next file meets
+module _ (at by : At) (m : ℕ) (log : Log) where
+  pub due_start : start_entry at (printed (with_due false by m log)) ≡ start_entry at (printed log)
+  due_start = due_has (λ l. start_entry at (printed l) ≡ start_entry at (printed log)) false by (λ n kind l is. is) m log refl
+
+  pub due_open : open_line at (printed (with_due false by m log)) ≡ open_line at (printed log)
+  due_open = due_has (λ l. open_line at (printed l) ≡ open_line at (printed log)) false by (λ n kind l is. open_over at by (record { 0 = n }) kind (printed l) ∙ is) m log refl
+
+  pub due_high : highest_switched at (printed (with_due false by m log)) ≡ highest_switched at (printed log)
+  due_high = due_has (λ l. highest_switched at (printed l) ≡ highest_switched at (printed log)) false by (λ n kind l is. high_over at by (record { 0 = n }) kind (printed l) ∙ is) m log refl
+
+  pub due_settling : (size : ℕ) (task : SettleTask) → IsSettling size (printed log) at task → IsSettling size (printed (with_due false by m log)) at task
+  due_settling size task was = due_has (λ l. IsSettling size (printed l) at task) false by (λ n kind l s. settling_over size (printed l) at by (record { 0 = n }) kind task s) m log was
+
+pub due_job : (lane : ℕ) (by : At) (m : ℕ) (log : Log) → job_of lane (with_due false by m log) ≡ job_of lane log
+due_job lane by m log = due_has (λ l. job_of lane l ≡ job_of lane log) false by (λ n kind l is. is) m log refl

@@ -43,6 +43,10 @@ nodes_is r ended b view = ap (λ (x : Run). x.nodes) view
 pub past_has : (P : Past → Type 0) (r : Run) (ended : Bool) (b : Sheet) → {left : Rest} → record { ended = ended; nodes = b.nodes; log = b.log; rest = left } ≡ r → P (printed b.log) → P (printed r.log)
 past_has P r ended b view has = subst (λ (l : Log). P (printed l)) (log_is r ended b view) has
 
+-- what is true of a cluster that runs
+pub running_has : {X : Type 0} {r : Run} {ended : Bool} {nodes : ℕ} {log : Log} {rest : Rest} → record { ended = ended; nodes = nodes; log = log; rest = rest } ≡ r → r.ended ≡ false → (ended ≡ false → X) → X
+running_has view running all = all (ap (λ (x : Run). x.ended) view ∙ running)
+
 -- the turn of an entry at what a call has of the book after it made room
 pub turn_at : (r : Run) (ended : Bool) (b0 b1 : Sheet) (at : At) (e : Event) → {left : Rest} → record { ended = ended; nodes = b0.nodes; log = b0.log; rest = left } ≡ r
     → b1.log ≡ b0.log → InTurn (printed r.log) at e → InTurn (printed b1.log) at e

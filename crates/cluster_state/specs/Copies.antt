@@ -19,10 +19,11 @@ use Rattle.history_tables.specs.declared.jobs.Job.{Job}
 use Rattle.history_tables.specs.Begins.{open_line}
 use Rattle.history_book.specs.Log.{Log, printed, shown, kept}
 use Rattle.history_book.specs.Jobs.{job_of}
-use Rattle.link_model.specs.declared.fate.Fate.TheVariants.{Whole}
-use Rattle.history_book.specs.declared.inner.Inner.TheVariants.{JobBegun, FileOut, JobEnd}
+use Rattle.history_book.specs.declared.inner.Inner.TheVariants.{JobBegun, JobEnd}
 use Rattle.cluster_nodes.specs.declared.tasks.CopyTask.{CopyTask}
 use Rattle.cluster_nodes.specs.declared.tasks.FileTask.{FileTask}
+use Rattle.merge_tasks.specs.Fates.{fate_due}
+use Rattle.cluster_state.specs.DueFaults.{MeetsFate, handed_log}
 use Rattle.cluster_state.specs.Run.{JobFiles, Run, files_at, IsNow}
 use Rattle.cluster_state.specs.GivesUp.{met_log}
 
@@ -72,9 +73,12 @@ abbrev pub IsFirstOf : List Name → Name → Type 0
 IsFirstOf [] q = ⊥
 IsFirstOf (p ∷ ps) q = p ≡ q
 
--- a file was handed out to the job, the first that it lacks, with its metadata, behind the faults of disks that were met; it ends in a footer
+-- a file was handed out to the job, the first that it lacks, with its metadata and what becomes of it, behind the faults that were met; it
+-- ends in a footer
 pub record HandsFile (job : Job) (old new : Run) (file : FileTask) : Type 0 where
-  pub now : IsNow old new (kept (FileOut job.at.line job.node job.number file.name file.source Whole (Some job.at)) ∷ met_log job.at old new)
+  pub now : IsNow old new (handed_log job file (met_log job.at old new))
+  pub fate : file.fate ≡ fate_due job.node.0 (met_log job.at old new)
+  pub met : MeetsFate file.fate job.at job.node.0 (printed new.log)
   pub first : IsFirstOf (files_at job.node.0 old).missing file.name
   pub files : files_at job.node.0 new ≡ files_at job.node.0 old
   pub meta : IsMetaOf file.source file.meta

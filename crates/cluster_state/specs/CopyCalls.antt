@@ -4,7 +4,7 @@ use Rattle.std.specs.List.{All}
 use Rattle.nrt_base.specs.declared.numbers.At.{At}
 use Rattle.nrt_base.specs.declared.numbers.NodeNo.{NodeNo}
 use Rattle.nrt_base.specs.declared.numbers.Version.{Version}
-use Rattle.disk_model.specs.Disk.{Name}
+use Rattle.link_model.specs.declared.fate.Fate.TheVariants.{Whole}
 use Rattle.history_rules.specs.declared.cause.Cause.{Cause}
 use Rattle.history_rules.specs.declared.cause.Cause.TheVariants.{Lost, Cancelled, DiskFault}
 use Rattle.history_rules.specs.declared.entry.Event.{Event}
@@ -27,6 +27,7 @@ use Rattle.cluster_nodes.specs.declared.tasks.FileTask.{FileTask}
 use Rattle.cluster_nodes.specs.declared.tasks.SettleTask.{SettleTask}
 use Rattle.cluster_state.specs.Run.{Run, files_at, IsNow}
 use Rattle.cluster_state.specs.Copies.{newest_of, JobRuns, BeginsJob, BeginsNoJob, BringsFile, GoesOn, JobRefused}
+use Rattle.cluster_state.specs.DueFaults.{fate_cause}
 use Rattle.cluster_state.specs.GivesUp.{met_log}
 use Rattle.cluster_state.specs.Settles.{IsSettling, WaitsFor}
 use Rattle.cluster_state.specs.declared.standing.Standing.{Standing}
@@ -165,16 +166,17 @@ abbrev pub JobSteps : Option Log → Job → Run → Run → Turn FileTask → T
 JobSteps (Some log) job old new turn = StopsTurn log old new turn
 JobSteps None job old new turn = JobGoesOn job old new turn
 
--- a job that runs has the file of this name now, and nothing was added but the faults of disks that were met; or a disk failed
-abbrev pub JobTakes : Job → Name → Run → Run → Turn (Unit {0}) → Type 0
-JobTakes job name old new (Work done) = IsNow old new (met_log job.at old new) × BringsFile name (files_at job.node.0 old) (files_at job.node.0 new)
-JobTakes job name old new Done = JobRefused job DiskFault old new
-JobTakes job name old new Busy = ⊥
+-- a job that runs has the file now, which came whole, and nothing was added but the faults of disks that were met; or its line is refused, for
+-- what became of the file or for the disk of its node
+abbrev pub JobTakes : Job → FileTask → Run → Run → Turn (Unit {0}) → Type 0
+JobTakes job file old new (Work done) = (file.fate ≡ Whole) × IsNow old new (met_log job.at old new) × BringsFile file.name (files_at job.node.0 old) (files_at job.node.0 new)
+JobTakes job file old new Done = JobRefused job (fate_cause file.fate file.name) old new
+JobTakes job file old new Busy = ⊥
 
--- a part arrives: its job was stopped, or takes the part
-abbrev pub PartArrives : Job → Name → Option Log → Run → Run → Turn (Unit {0}) → Type 0
-PartArrives job name (Some log) old new turn = StopsTurn log old new turn
-PartArrives job name None old new turn = JobTakes job name old new turn
+-- a part of a file arrives, or what kept it back: its job was stopped, or takes it
+abbrev pub PartArrives : Job → FileTask → Option Log → Run → Run → Turn (Unit {0}) → Type 0
+PartArrives job file (Some log) old new turn = StopsTurn log old new turn
+PartArrives job file None old new turn = JobTakes job file old new turn
 
 -- none of these nodes is below this one
 abbrev pub AreFrom : NodeNo → List NodeNo → Type 0

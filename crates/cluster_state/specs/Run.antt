@@ -85,7 +85,7 @@ pub record IsNow (old new : Run) (now : List Mark) : Type 0 where
   pub nodes : new.nodes ≡ old.nodes
   pub log : new.log ≡ now
 
--- what callers are told beside the log is as before, but for the faults that disks have met
+-- what callers are told beside the log is as before, but for what is planned for disks and what they have met
 abbrev pub KeepsRest : Run → Run → Type 0
 KeepsRest old new = new.rest ≡ record old.rest { plans = new.rest.plans }
 

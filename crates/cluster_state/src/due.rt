@@ -1,6 +1,6 @@
 //! The faults that a file meets as it is handed out.
 
-ghost use Rattle.std.specs.Prelude.{◌≡◌, ◌≤◌, ◌+◌, true};
+ghost use Rattle.std.specs.Prelude.{◌≡◌, ◌≢◌, ◌≤◌, ◌+◌, true, false};
 ghost use Rattle.history_rules.specs.Nodes.{IsNode, is_running};
 ghost use Rattle.history_rules.specs.Rules.{MayFault, fetches_at};
 ghost use Rattle.history_book.specs.Jobs.{FollowsFault};
@@ -28,6 +28,19 @@ fn show_where(ledger: &mut Ledger, task: bool, at: At, n: NodeNo, kind: FaultKin
 {
     if due {
         show_fault(ledger, task, at, n, kind);
+    }
+}
+
+/// Whether no fault is due in the next file that is handed out to a node.
+pub fn comes_whole(ledger: &Ledger, n: NodeNo) -> bool
+    requires { IsNode ledger.now.nodes n.0 }
+    ensures whole { result ≡ true → fate_due n.0 ledger.now.log ≡ Fate.Whole }
+    ensures broken { result ≡ false → fate_due n.0 ledger.now.log ≢ Fate.Whole }
+{
+    match ledger.file_plans(n).fate() {
+        Fate::Whole => true,
+        Fate::Fail => false,
+        Fate::Damage(_) => false,
     }
 }
 

@@ -15,10 +15,12 @@ pub use cluster::ClusterState;
 pub use cluster_nodes::{
     CommitTask, CopyTask, FileTask, Node, NodePlace, Replica, SettleTask, files_last,
 };
-pub use due::show_due;
+pub use due::{comes_whole, show_due};
 pub use lately::is_merge_line;
 pub use laws::are_bytes;
-pub use met::{are_planned, has_risen, kinds_in, node_kinds, note_met, show_met, show_task_met};
+pub use met::{
+    are_planned, has_risen, kinds_in, met_before, node_kinds, note_met, show_met, show_task_met,
+};
 pub use receivers::replicas;
 pub use refusals::{refuse, refuse_turn};
 pub use standing::Standing;

@@ -1,6 +1,6 @@
 //! Which faults of disks were met, and their entries.
 
-ghost use Rattle.std.specs.Prelude.{◌≡◌, ◌≤◌, ◌<◌, ◌+◌, ◌*◌, ◌==◌, ◌∷◌, false, true, map, length, IfOk, OnOk, OnErr};
+ghost use Rattle.std.specs.Prelude.{◌≡◌, ◌≤◌, ◌<◌, ◌+◌, ◌*◌, ◌^◌, ◌==◌, ◌∷◌, false, true, map, length, IfOk, OnOk, OnErr};
 ghost use Rattle.history_rules.specs.Nodes.{IsNode, primary_of};
 ghost use Rattle.history_rules.specs.Lines.{is_answered, is_start, start_entry};
 ghost use Rattle.history_rules.specs.Faults.{is_of_disk};
@@ -51,6 +51,31 @@ pub fn kinds_in<D: FaultDir + Drop>(
         kinds.push(kinds_at(place))?;
     }
     Ok(kinds)
+}
+
+/// What each disk has met by its plans, with room for what a call meets more, and for so many entries behind that.
+pub fn met_before<D: FaultDir + Drop>(
+    alloc: Global,
+    ledger: &mut Ledger,
+    places: &Vec<Option<NodePlace<D>>>,
+    more: usize,
+) -> Result<Vec<(u64, u64)>, NoMemory>
+    requires { more ≤ 2 ^ 63 + 2 }
+    ensures met { IfOk result (λ met. met.items ≡ map (met_in D.planned) places.now.items) }
+    ensures few { IfOk result (λ met. length met.items ≤ 255) }
+    ensures room { IfOk result (λ met. 2 * length met.items + more ≤ ledger.new.room) }
+    ensures line { OnOk result (1 ≤ ledger.new.places) }
+    ensures jobs { OnOk result (1 ≤ ledger.new.jobs) }
+    ensures log { ledger.new.log ≡ ledger.old.log }
+    ensures nodes { ledger.new.nodes ≡ ledger.old.nodes }
+    ensures cut { ledger.new.cut ≡ ledger.old.cut }
+{
+    let met = kinds_in(alloc, places.as_slice())?;
+    if met.len() > u8::MAX as usize {
+        return Err(AllocError);
+    }
+    ledger.reserve(2 * met.len() + more)?;
+    Ok(met)
 }
 
 // Appends a fault, of a line or of a task of its merge.

@@ -1,7 +1,7 @@
 mod Steps
 mod Remainder
 mod Slicing
-mod Pairs
+mod Triples
 mod KnownSums
 pub mod ByteLaws
 mod Fields

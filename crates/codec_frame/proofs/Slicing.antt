@@ -61,7 +61,7 @@ long_rows-at j [] e h = absurd (omega arith)
 long_rows-at zero (r ∷ rs) e h = eqb-true _ _ (and_parts (eqb (length r) 256) (long_rows rs) e).0
 long_rows-at (suc j) (r ∷ rs) e h = long_rows-at j rs (and_parts (eqb (length r) 256) (long_rows rs) e).1 (omega arith)
 
-pub table_entry : (k b : ℕ) → k < 16 → b < 256 → get_or (get_or TABLES k []) b 0 ≡ steps (8 * (k + 1)) b
+pub table_entry : (k b : ℕ) → k < 24 → b < 256 → get_or (get_or TABLES k []) b 0 ≡ steps (8 * (k + 1)) b
 table_entry k b hk hb =
     let len : length (get_or TABLES k []) ≡ 256 = long_rows-at k TABLES refl hk in
     let n : 1 + k ≡ k + 1 = omega arith in

@@ -1,4 +1,4 @@
-//! CRC-32, two words a turn.
+//! CRC-32, three words a turn.
 
 ghost use Rattle.std.specs.Prelude.{◌≡◌, ◌+◌, ◌*◌, ◌%◌, ◌<◌, ℕ, length, bit_xor};
 ghost use Rattle.codec_frame.specs.Division.{IsCrc, crc_of};
@@ -16,7 +16,7 @@ pub fn crc32(bytes: &[u8]) -> u32
     ensures division { IsCrc bytes.now result }
     ensures only { (c : ℕ) → IsCrc bytes.now c → c ≡ result }
 {
-    let (mut register, mut left) = take_in_pairs(0xffff_ffff, bytes);
+    let (mut register, mut left) = take_in_triples(0xffff_ffff, bytes);
     'words: while left.len() >= 8 {
         let (word, rest) = left.split_at(8);
         register = take_in_word(register, word);
@@ -25,35 +25,40 @@ pub fn crc32(bytes: &[u8]) -> u32
     take_in_rest(register, left) ^ 0xffff_ffff
 }
 
-// The register after pairs of words, and the bytes after them. The words go into two registers in turn, so that none
+// The register after triples of words, and the bytes after them. The words go into three registers in turn, so that none
 // waits for the word before it.
-fn take_in_pairs(register: u32, bytes: &[u8]) -> (u32, &[u8])
+fn take_in_triples(register: u32, bytes: &[u8]) -> (u32, &[u8])
     ensures { taken_in result.0 result.1.now ≡ taken_in register bytes.now }
 {
-    let mut even = register;
-    let mut odd: u32 = 0;
+    let mut first = register;
+    let mut second: u32 = 0;
+    let mut third: u32 = 0;
     let mut left = bytes;
-    'pairs: while left.len() >= 24 {
-        let (first, rest) = left.split_at(8);
-        let (second, after) = rest.split_at(8);
-        even = take_in_and_pass(even, first);
-        odd = take_in_and_pass(odd, second);
+    'triples: while left.len() >= 40 {
+        let (a, behind) = left.split_at(8);
+        let (b, rest) = behind.split_at(8);
+        let (c, after) = rest.split_at(8);
+        first = take_in_and_pass(first, a);
+        second = take_in_and_pass(second, b);
+        third = take_in_and_pass(third, c);
         left = after;
     }
-    if left.len() < 8 {
-        return (even, left);
+    if left.len() < 16 {
+        return (first, left);
     }
-    let (word, rest) = left.split_at(8);
-    (take_in_word(even, word) ^ odd, rest)
+    let (a, behind) = left.split_at(8);
+    let (b, rest) = behind.split_at(8);
+    let joined = take_in_word(first, a) ^ second;
+    (take_in_word(joined, b) ^ third, rest)
 }
 
-// The register after one word, and after the places of one more.
+// The register after one word, and after the places of two more.
 #[inline(always)]
 fn take_in_and_pass(register: u32, word: &[u8]) -> u32
     requires { length word.now ≡ 8 }
-    ensures { result ≡ steps 64 (taken_in register word.now) }
+    ensures { result ≡ steps 128 (taken_in register word.now) }
 {
-    eight_before(LittleEndian::read_u64(word) ^ register as u64)
+    sixteen_before(LittleEndian::read_u64(word) ^ register as u64)
 }
 
 // The register after one word.
@@ -84,19 +89,19 @@ fn take_in_byte(register: u32, byte: u8) -> u32
     entry(0, (register ^ byte as u32) as u64) ^ (register >> 8)
 }
 
-// What a word gives that eight bytes follow. The low bytes are the last, since the register is in them.
+// What a word gives that sixteen bytes follow. The low bytes are the last, since the register is in them.
 #[inline(always)]
-fn eight_before(word: u64) -> u32
-    ensures { result ≡ steps 128 word }
+fn sixteen_before(word: u64) -> u32
+    ensures { result ≡ steps 192 word }
 {
-    entry(8, word >> 56)
-        ^ entry(9, word >> 48)
-        ^ entry(10, word >> 40)
-        ^ entry(11, word >> 32)
-        ^ entry(12, word >> 24)
-        ^ entry(13, word >> 16)
-        ^ entry(14, word >> 8)
-        ^ entry(15, word)
+    entry(16, word >> 56)
+        ^ entry(17, word >> 48)
+        ^ entry(18, word >> 40)
+        ^ entry(19, word >> 32)
+        ^ entry(20, word >> 24)
+        ^ entry(21, word >> 16)
+        ^ entry(22, word >> 8)
+        ^ entry(23, word)
 }
 
 // What a word gives that nothing follows.
@@ -117,7 +122,7 @@ fn eight_last(word: u64) -> u32
 // What the lowest byte of a word gives where k more bytes follow it.
 #[inline(always)]
 fn entry(k: usize, word: u64) -> u32
-    requires { k < 16 }
+    requires { k < 24 }
     ensures { result ≡ steps (8 * (k + 1)) (word % 256) }
 {
     TABLES[k][(word & 0xff) as usize]

@@ -2,6 +2,7 @@ mod Answers
 pub mod Safe
 mod Advancing
 mod Books
+mod StepCounts
 mod Beginning
 mod Recovering
 pub mod Recovered

@@ -5,4 +5,5 @@ pub mod Commits
 pub mod Flights
 pub mod Found
 pub mod Recovery
+pub mod StepCalls
 pub mod Given

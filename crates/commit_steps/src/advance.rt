@@ -1,11 +1,12 @@
 //! One call of the directory for the commit in flight.
 
-ghost use Rattle.std.specs.Prelude.{◌≡◌, ◌<◌, ℕ, Ok, Err, IsSome};
-ghost use Rattle.disk_model.specs.Faults.{CountsFaults};
+ghost use Rattle.std.specs.Prelude.{◌≡◌, ◌<◌, ℕ, true, Ok, Err, IsSome};
+ghost use Rattle.disk_model.specs.Disk.{after_sync_names};
+ghost use Rattle.disk_model.specs.Faults.{CountsFaults, FailsByPlans};
 ghost use Rattle.file_deleter.specs.Holdings.{Holdings, AreThere};
 ghost use Rattle.commit_steps.specs.Flights.{pending_name, call_answer};
 ghost use Rattle.commit_steps.specs.Calls.{StandsBegun, StandsSynced, StandsWritten, StandsPending, StandsNamed, StandsRenamed};
-ghost use Rattle.commit_steps.specs.Book.{Stands, Advances};
+ghost use Rattle.commit_steps.specs.Book.{Stands, Advances, is_last_call};
 
 use crate::stage::{Progress, Stage};
 use crate::states::{Begun, Named, Pending, Renamed, Stopped, Synced, Written};
@@ -20,6 +21,7 @@ fn sync_files<D: Dir>(state: Begun, dir: &mut D) -> Result<Progress, Stopped<Sta
     ensures advances { (holdings : Holdings) → StandsBegun (D.cells dir.old) holdings state.0
         → Advances (D.cells dir.old) (D.cells dir.new) holdings holdings (Stage.Begun state) result }
     ensures faults { CountsFaults (D.faults dir.old) (D.faults dir.new) (call_answer result) }
+    ensures plans { FailsByPlans (D.plans dir.old) (D.plans dir.new) (call_answer result) }
 {
     match state.sync_files(dir) {
         Ok(synced) => Ok(Progress::Going(Stage::Synced(synced))),
@@ -42,6 +44,7 @@ fn write_pending<D: Dir>(
     ensures advances { Advances (D.cells dir.old) (D.cells dir.new)
         files.old files.new (Stage.Synced state) result }
     ensures faults { CountsFaults (D.faults dir.old) (D.faults dir.new) (call_answer result) }
+    ensures plans { FailsByPlans (D.plans dir.old) (D.plans dir.new) (call_answer result) }
 {
     let name = pending_name(state.0.commit.number);
     match state.write_pending(alloc, dir) {
@@ -62,6 +65,7 @@ fn sync_pending<D: Dir>(state: Written, dir: &mut D) -> Result<Progress, Stopped
     ensures advances { (holdings : Holdings) → StandsWritten (D.cells dir.old) holdings state.0
         → Advances (D.cells dir.old) (D.cells dir.new) holdings holdings (Stage.Written state) result }
     ensures faults { CountsFaults (D.faults dir.old) (D.faults dir.new) (call_answer result) }
+    ensures plans { FailsByPlans (D.plans dir.old) (D.plans dir.new) (call_answer result) }
 {
     match state.sync_pending(dir) {
         Ok(pending) => Ok(Progress::Going(Stage::Pending(pending))),
@@ -77,6 +81,7 @@ fn sync_first_names<D: Dir>(state: Pending, dir: &mut D) -> Result<Progress, Sto
     ensures advances { (holdings : Holdings) → StandsPending (D.cells dir.old) holdings state.0
         → Advances (D.cells dir.old) (D.cells dir.new) holdings holdings (Stage.Pending state) result }
     ensures faults { CountsFaults (D.faults dir.old) (D.faults dir.new) (call_answer result) }
+    ensures plans { FailsByPlans (D.plans dir.old) (D.plans dir.new) (call_answer result) }
 {
     match state.sync_names(dir) {
         Ok(named) => Ok(Progress::Going(Stage::Named(named))),
@@ -98,6 +103,7 @@ fn rename<D: Dir>(
     ensures advances { Advances (D.cells dir.old) (D.cells dir.new)
         files.old files.new (Stage.Named state) result }
     ensures faults { CountsFaults (D.faults dir.old) (D.faults dir.new) (call_answer result) }
+    ensures plans { FailsByPlans (D.plans dir.old) (D.plans dir.new) (call_answer result) }
 {
     let pending = pending_name(state.0.commit.number);
     let own = commit_name(state.0.commit.number);
@@ -118,6 +124,8 @@ fn sync_last_names<D: Dir>(state: Renamed, dir: &mut D) -> Result<Progress, Stop
     ensures advances { (holdings : Holdings) → StandsRenamed (D.cells dir.old) holdings state.0
         → Advances (D.cells dir.old) (D.cells dir.new) holdings holdings (Stage.Renamed state) result }
     ensures faults { CountsFaults (D.faults dir.old) (D.faults dir.new) (call_answer result) }
+    ensures plans { FailsByPlans (D.plans dir.old) (D.plans dir.new) (call_answer result) }
+    ensures cells { D.cells dir.new ≡ after_sync_names (D.cells dir.old) (call_answer result) }
 {
     match state.sync_names(dir) {
         Ok(done) => Ok(Progress::Made(done.0.commit)),
@@ -139,6 +147,9 @@ pub fn advance<D: Dir>(
     requires stands { Stands (D.cells dir.old) files.old stage }
     ensures advances { Advances (D.cells dir.old) (D.cells dir.new) files.old files.new stage result }
     ensures faults { CountsFaults (D.faults dir.old) (D.faults dir.new) (call_answer result) }
+    ensures plans { FailsByPlans (D.plans dir.old) (D.plans dir.new) (call_answer result) }
+    ensures last { is_last_call stage ≡ true → (files.new ≡ files.old)
+        × (D.cells dir.new ≡ after_sync_names (D.cells dir.old) (call_answer result)) }
 {
     match stage {
         Stage::Begun(state) => sync_files(state, dir),

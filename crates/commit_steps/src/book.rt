@@ -7,7 +7,9 @@ ghost use Rattle.disk_model.specs.Disk.{Cells, is_among};
 ghost use Rattle.disk_model.specs.Faults.{CountsFaults};
 ghost use Rattle.file_deleter.specs.Holdings.{Holdings, AreCounted};
 ghost use Rattle.file_deleter.specs.Moves.{LetsGo};
+ghost use Rattle.file_deleter.specs.Removals.{directory_of};
 ghost use Rattle.commit_steps.specs.Commits.{ImagesHave, ImagesShowNothing};
+ghost use Rattle.commit_steps.specs.StepCalls.{RemovesLast, StepCalls};
 ghost use Rattle.commit_steps.specs.Book.{commit_of, last_names, book_names, IsBookSound, IsBookStep, book_after, is_last_step};
 
 use crate::advance::advance;
@@ -54,6 +56,9 @@ impl CommitBook {
         ensures book { self.new ≡ record self.old { last = Some commit } }
         ensures lets { LetsGo (last_names self.old.last) files.old files.new
             (D.cells dir.old) (D.cells dir.new) }
+        ensures removals { RemovesLast self.old.last files.old files.new
+            (directory_of D.cells D.plans D.faults dir.old)
+            (directory_of D.cells D.plans D.faults dir.new) }
         ensures later { D.faults dir.old ≤ D.faults dir.new }
     {
         if let Some(old) = self.last.replace(commit) {
@@ -79,6 +84,9 @@ impl CommitBook {
         ensures ok { OnOk result (self.new ≡ book_after self.old) }
         ensures done { IfOk result (λ done. done ≡ is_last_step self.old.stage) }
         ensures err { OnErr result (self.new ≡ self.old) }
+        ensures calls { StepCalls self.old.last files.old files.new
+            (directory_of D.cells D.plans D.faults dir.old)
+            (directory_of D.cells D.plans D.faults dir.new) result }
         ensures failed { IsErrOf result CommitFault.Failed → Rose (D.faults dir.old) (D.faults dir.new) }
         ensures later { D.faults dir.old ≤ D.faults dir.new }
     {
@@ -125,6 +133,11 @@ impl CommitBook {
             → IfSome self.old.stage (λ stage. ImagesHave (D.cells dir.new) (commit_of stage)) }
         ensures err { OnErr result (self.new ≡ self.old) }
         ensures failed { IsErrOf result CommitFault.Failed → Rose (D.faults dir.old) (D.faults dir.new) }
+
+        // The calls of the directory, as plans count them.
+        ensures calls { StepCalls self.old.last files.old files.new
+            (directory_of D.cells D.plans D.faults dir.old)
+            (directory_of D.cells D.plans D.faults dir.new) result }
 
         // At each answer.
         ensures step { IsBookStep (D.cells dir.old) (D.cells dir.new) files.old files.new

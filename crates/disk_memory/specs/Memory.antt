@@ -4,7 +4,7 @@ use Rattle.disk_model.specs.Disk.{Name, Image, Cells}
 use Rattle.disk_model.specs.Faults.{Plans, faults_met}
 use Rattle.disk_memory.specs.declared.memory.MemDir.{MemDir}
 use Rattle.disk_memory.specs.Held.{Held}
-use Rattle.disk_memory.specs.Table.{Table, held_in, cells_of}
+use Rattle.disk_memory.specs.Table.{Table, held_in, names_in, cells_of}
 use Rattle.disk_memory.specs.Crash.{image_picked}
 
 -- the names that exist or have a past, in ascending order, each with what is held there
@@ -34,3 +34,7 @@ known_plans m = Some (plans_of m)
 -- the image that a crash of it with this number leaves
 abbrev pub image_in : MemDir → ℕ → Image
 image_in m pick = image_picked pick (entries_of m)
+
+-- the names under which a file exists, in ascending order
+abbrev pub names_on : MemDir → List Name
+names_on m = names_in (entries_of m)

@@ -1,7 +1,10 @@
 //! Which names may have a past, so that a sync of the names goes to these alone.
 
-ghost use Rattle.std.specs.Prelude.{◌≡◌, ◌≢◌, true, false, [], ℕ, List};
+ghost use Rattle.std.specs.Prelude.{◌≡◌, ◌≢◌, true, false, is_some, [], ℕ, List};
 ghost use Rattle.std.specs.Bool.{OnTrue};
+ghost use Rattle.std.specs.BTreeMap.{get_by};
+ghost use Rattle.std.specs.Cmp.Lexicographic.{slice_cmp};
+ghost use Rattle.std.specs.Ordering.{nat_cmp};
 ghost use Rattle.disk_memory.specs.Table.{held_in};
 ghost use Rattle.disk_memory.specs.Changed.{has_changed, AreAllNoted};
 
@@ -39,24 +42,41 @@ impl Changed {
     }
 }
 
-// Whether a name has a past.
-fn has_past(slots: &BTreeMap<FileName, Slot>, name: &FileName) -> bool
-    ensures { OnTrue result ((held_in slots.now.entries name.now).past ≢ []) }
+// How a name stands: whether it has a slot, and whether that has a past.
+#[derive(Clone, Copy)]
+struct Standing {
+    has_slot: bool,
+    has_past: bool,
+}
+
+// How a name stands.
+fn look_at(slots: &BTreeMap<FileName, Slot>, name: &FileName) -> Standing
+    ensures slot { result.has_slot ≡ is_some (get_by (slice_cmp nat_cmp name.now) slots.now) }
+    ensures past { OnTrue result.has_past ((held_in slots.now.entries name.now).past ≢ []) }
 {
     match slots.get(name) {
-        Some(slot) => slot.has_past(),
-        None => false,
+        Some(slot) => Standing {
+            has_slot: true,
+            has_past: slot.has_past(),
+        },
+        None => Standing {
+            has_slot: false,
+            has_past: false,
+        },
     }
 }
 
-/// Notes a name that is about to change. One that has a past is noted already.
-pub fn note(changed: &mut Changed, slots: &BTreeMap<FileName, Slot>, name: &FileName)
+/// Notes a name that is about to change, and says whether it has a slot. One that has a past is noted already.
+pub fn note(changed: &mut Changed, slots: &BTreeMap<FileName, Slot>, name: &FileName) -> bool
     requires { AreAllNoted changed.old slots.now.entries }
+    ensures slot { result ≡ is_some (get_by (slice_cmp nat_cmp name.now) slots.now) }
     ensures here { has_changed changed.new name.now ≡ true }
     ensures kept { (q : List ℕ) → has_changed changed.old q ≡ true
         → has_changed changed.new q ≡ true }
 {
-    if !has_past(slots, name) {
+    let standing = look_at(slots, name);
+    if !standing.has_past {
         changed.add(name);
     }
+    standing.has_slot
 }

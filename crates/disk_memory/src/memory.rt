@@ -10,7 +10,7 @@ ghost use Rattle.disk_model.specs.Faults.{CountsFaults, FailsByPlans, ended};
 ghost use Rattle.disk_memory.specs.Held.{untouched};
 ghost use Rattle.disk_memory.specs.Table.{table_after_write, table_after_remove, table_after_rename, table_after_sync, table_after_sync_names};
 ghost use Rattle.disk_memory.specs.Crash.{held_after_crash};
-ghost use Rattle.disk_memory.specs.Memory.{entries_of, table_of, plans_of, cells_in, faults_in, known_plans, image_in};
+ghost use Rattle.disk_memory.specs.Memory.{entries_of, table_of, plans_of, cells_in, faults_in, known_plans, image_in, names_on};
 
 use crate::plans::Planned;
 use crate::slots::Slots;
@@ -214,9 +214,15 @@ impl FaultDir for MemDir {
 
     ghost leaves = { image_in };
 
+    ghost names = { names_on };
+
     ghost known = { λ m. refl };
 
     ghost all_met = { λ m. refl };
+
+    fn is_named(&self) {
+        self.slots.is_ordered();
+    }
 
     fn plan(&mut self, k: u64)
         requires { 0 < k }

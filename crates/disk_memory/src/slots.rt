@@ -76,6 +76,13 @@ impl Slots {
         table::load(&self.by_name, name)
     }
 
+    /// The names ascend. It changes nothing.
+    pub fn is_ordered(&self)
+        ensures { IsStrictlySortedBy (slice_cmp nat_cmp) (keys_of self.now) }
+    {
+        table::is_ordered(&self.by_name);
+    }
+
     /// The names under which a file exists, in ascending order.
     pub fn names(&self, alloc: Global) -> Result<Vec<FileName>, NoMemory>
         ensures names { IfOk result (λ names. names.items ≡ names_in self.now) }
@@ -90,8 +97,8 @@ impl Slots {
         ensures ok { OnOk result (ChangesAt self.old self.new name.now (set_to state)) }
         ensures err { OnErr result (IsUnchanged self.old self.new) }
     {
-        note(&mut self.changed, &self.by_name, name);
-        table::set(alloc, &mut self.by_name, name, state)
+        let has_slot = note(&mut self.changed, &self.by_name, name);
+        table::set(alloc, &mut self.by_name, name, has_slot, state)
     }
 
     /// Fails to put a file, in this state, under a name that has none.
@@ -101,8 +108,8 @@ impl Slots {
             (ChangesAt self.old self.new name.now (with_outcome (outcome_of state))) }
         ensures err { OnErr result (IsUnchanged self.old self.new) }
     {
-        note(&mut self.changed, &self.by_name, name);
-        table::half_set(alloc, &mut self.by_name, name, state)
+        let has_slot = note(&mut self.changed, &self.by_name, name);
+        table::half_set(alloc, &mut self.by_name, name, has_slot, state)
     }
 
     /// Gives a file another name.
@@ -114,8 +121,8 @@ impl Slots {
         ensures err { OnErr result (IsUnchanged self.old self.new) }
     {
         note(&mut self.changed, &self.by_name, from);
-        note(&mut self.changed, &self.by_name, to);
-        table::rename(alloc, &mut self.by_name, from, to)
+        let has_slot = note(&mut self.changed, &self.by_name, to);
+        table::rename(alloc, &mut self.by_name, from, to, has_slot)
     }
 
     /// Fails to give a file another name. A crash may show it under either.
@@ -132,8 +139,8 @@ impl Slots {
         ensures err { OnErr result (IsUnchanged self.old self.new) }
     {
         note(&mut self.changed, &self.by_name, from);
-        note(&mut self.changed, &self.by_name, to);
-        table::half_rename(alloc, &mut self.by_name, from, to)
+        let has_slot = note(&mut self.changed, &self.by_name, to);
+        table::half_rename(alloc, &mut self.by_name, from, to, has_slot)
     }
 
     /// Removes a file that is there. Takes no memory.

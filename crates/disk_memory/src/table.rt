@@ -86,18 +86,20 @@ fn insert(slots: &mut BTreeMap<FileName, Slot>, name: FileName, slot: Slot) -> R
     Ok(())
 }
 
-/// Puts a file, in this state, under a name that has none.
+/// Puts a file, in this state, under a name that has none. The caller says whether the name has a slot.
 pub fn set(
     alloc: Global,
     slots: &mut BTreeMap<FileName, Slot>,
     name: &FileName,
+    has_slot: bool,
     state: State,
 ) -> Result<(), NoMemory>
-    requires { reads_in slots.old.entries name.now ≡ None }
+    requires free { reads_in slots.old.entries name.now ≡ None }
+    requires slot { has_slot ≡ is_some (get_by (slice_cmp nat_cmp name.now) slots.old) }
     ensures ok { OnOk result (ChangesAt slots.old.entries slots.new.entries name.now (set_to state)) }
     ensures err { OnErr result (IsUnchanged slots.old.entries slots.new.entries) }
 {
-    if slots.contains_key(name) {
+    if has_slot {
         return set_in_slot(slots, name, state);
     }
     let slot = set_slot(alloc, state)?;
@@ -134,19 +136,21 @@ fn half_set_slot(alloc: Global, state: State) -> Result<Slot, NoMemory>
     Ok(slot)
 }
 
-/// Fails to put a file, in this state, under a name that has none.
+/// Fails to put a file, in this state, under a name that has none. The caller says whether the name has a slot.
 pub fn half_set(
     alloc: Global,
     slots: &mut BTreeMap<FileName, Slot>,
     name: &FileName,
+    has_slot: bool,
     state: State,
 ) -> Result<(), NoMemory>
-    requires { reads_in slots.old.entries name.now ≡ None }
+    requires free { reads_in slots.old.entries name.now ≡ None }
+    requires slot { has_slot ≡ is_some (get_by (slice_cmp nat_cmp name.now) slots.old) }
     ensures ok { OnOk result (ChangesAt slots.old.entries slots.new.entries name.now
         (with_outcome (outcome_of state))) }
     ensures err { OnErr result (IsUnchanged slots.old.entries slots.new.entries) }
 {
-    if slots.contains_key(name) {
+    if has_slot {
         return half_set_in_slot(slots, name, state);
     }
     let slot = half_set_slot(alloc, state)?;
@@ -163,40 +167,44 @@ fn state_of(slots: &BTreeMap<FileName, Slot>, name: &FileName) -> Result<State, 
     }
 }
 
-/// Gives a file another name.
+/// Gives a file another name. The caller says whether that has a slot.
 pub fn rename(
     alloc: Global,
     slots: &mut BTreeMap<FileName, Slot>,
     from: &FileName,
     to: &FileName,
+    has_slot: bool,
 ) -> Result<(), NoMemory>
     requires there { HasFile slots.old.entries from.now }
     requires free { reads_in slots.old.entries to.now ≡ None }
+    requires slot { has_slot ≡ is_some (get_by (slice_cmp nat_cmp to.now) slots.old) }
     ensures ok { OnOk result (held_in slots.new.entries
         ≡ renamed_table (held_in slots.old.entries) from.now to.now) }
     ensures err { OnErr result (IsUnchanged slots.old.entries slots.new.entries) }
 {
     let state = state_of(slots, from)?;
-    set(alloc, slots, to, state)?;
+    set(alloc, slots, to, has_slot, state)?;
     remove(slots, from);
     Ok(())
 }
 
-/// Fails to give a file another name. A crash may show it under either.
+/// Fails to give a file another name, of which the caller says whether it has a slot. A crash may show it under either.
 pub fn half_rename(
     alloc: Global,
     slots: &mut BTreeMap<FileName, Slot>,
     from: &FileName,
     to: &FileName,
+    has_slot: bool,
 ) -> Result<(), NoMemory>
     requires there { HasFile slots.old.entries from.now }
     requires free { reads_in slots.old.entries to.now ≡ None }
+    requires slot { has_slot ≡ is_some (get_by (slice_cmp nat_cmp to.now) slots.old) }
     ensures ok { OnOk result (held_in slots.new.entries
         ≡ half_renamed_table (held_in slots.old.entries) from.now to.now) }
     ensures err { OnErr result (IsUnchanged slots.old.entries slots.new.entries) }
 {
     let state = state_of(slots, from)?;
-    half_set(alloc, slots, to, state)?;
+    half_set(alloc, slots, to, has_slot, state)?;
     half_remove(slots, from);
     Ok(())
 }
@@ -250,6 +258,13 @@ pub fn flush_all(slots: &mut BTreeMap<FileName, Slot>, names: &[FileName])
     for name in names {
         flush(slots, name);
     }
+}
+
+/// The names ascend. It changes nothing.
+pub fn is_ordered(slots: &BTreeMap<FileName, Slot>)
+    ensures { IsStrictlySortedBy (slice_cmp nat_cmp) (keys slots.now) }
+{
+    let _names = slots.keys();
 }
 
 /// The names under which a file exists, in ascending order.

@@ -5,6 +5,7 @@ ghost use Rattle.std.specs.Cmp.Lexicographic.{slice_cmp};
 ghost use Rattle.std.specs.Ordering.{nat_cmp};
 ghost use Rattle.std.specs.List.Sorted.{IsStrictlySortedBy};
 ghost use Rattle.disk_model.specs.Disk.{Cell, Cells, Content, is_among, after_write, after_remove, after_rename, after_sync, after_sync_names, reads_of, first_missing, BothRead, Image, HasCrashed, restarted};
+ghost use Rattle.disk_model.specs.Listed.{AreNamesOf};
 ghost use Rattle.disk_model.specs.Faults.{Plans, CountsFaults, FailsByPlans, ended, faults_met};
 
 use bytes::Bytes;
@@ -135,6 +136,13 @@ pub trait FaultDir: Dir {
 
     /// The image that a crash with this number leaves.
     ghost leaves: { Self → ℕ → Image };
+
+    /// The names of the files that exist, in ascending order.
+    ghost names: { Self → List (List ℕ) };
+
+    /// They are those of the files that read.
+    fn is_named(&self)
+        ensures { AreNamesOf (Self.cells self.now) (names self.now) };
 
     /// The k-th counted call from now fails once. This takes the place of the plan before.
     fn plan(&mut self, k: u64)

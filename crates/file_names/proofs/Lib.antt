@@ -5,3 +5,4 @@ mod ReadingLemmas
 mod SpellingLemmas
 pub mod NameReading
 pub mod Given
+mod WordLemmas

@@ -1,11 +1,15 @@
 -- Bytes of which none is refused are the bytes of a file's name, and how they lie in 64 bytes.
-use Rattle.std.proofs.Common.{◌≡◌, ℕ, ◌-◌, ◌≤◌, Bool, true, false, not, cond, nat_lt, nat_eq, List, ◌++◌, length, take, drop, get_or, replicate, None, Some, sym, ap, ◌∙◌, arith}
+use Rattle.std.proofs.Common.{◌≡◌, ℕ, ◌-◌, ◌≤◌, ◌<◌, Bool, true, false, not, cond, nat_lt, nat_eq, List, ◌++◌, length, take, drop, get_or, replicate, None, Some, sym, ap, ◌∙◌, arith}
 use Rattle.std.specs.List.{list_all, position, position_or_len}
+use Rattle.std.specs.Str.{IsUtf8}
 use Rattle.file_names.specs.Names.{is_name_byte, is_file_name}
+use Rattle.nrt_base.specs.Bytes.{is_between}
+use Rattle.nrt_base.proofs.Plain.{text_from_test}
 use Rattle.std.proofs.lemmas.Grind.{common_steps}
 use Rattle.std.proofs.lemmas.List.{drop-replicate}
 use Rattle.std.proofs.lemmas.List.Sums.{list_all-from_AllPass, fails_before_first}
-use Rattle.std.proofs.lemmas.Bool.{not-false}
+use Rattle.std.proofs.lemmas.Bool.{not-false, and_parts}
+use Rattle.std.proofs.lemmas.Bool.Decides.{nat_tests}
 
 past_end : (n m : ℕ) → cond (nat_lt n m) (Some n) None ≡ None → m ≤ n
 past_end n m h = grind arith
@@ -31,3 +35,10 @@ is_padded bytes lain named is =
 -- zeros whose front is written over
 pub over_zeros : (written bytes : List ℕ) → written ≡ bytes → written ++ drop (length bytes) (replicate 64 0) ≡ bytes ++ replicate (64 - length bytes) 0
 over_zeros written bytes same = ap (λ xs. xs ++ drop (length bytes) (replicate 64 0)) same ∙ ap (λ zs. bytes ++ zs) (drop-replicate (length bytes) 64 0)
+
+is_ascii-name_byte : (b : ℕ) → is_name_byte b ≡ true → b < 128
+is_ascii-name_byte b h = grind (arith, nat_tests, h)
+
+-- the bytes of a file's name are text
+pub name_is_text : (bytes : List ℕ) → is_file_name bytes ≡ true → IsUtf8 bytes
+name_is_text bytes h = text_from_test is_name_byte is_ascii-name_byte bytes (and_parts (is_between 1 64 (length bytes)) (list_all is_name_byte bytes) h).1

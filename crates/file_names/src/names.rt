@@ -1,6 +1,6 @@
 //! A file's name, and why bytes are none.
 
-ghost use Rattle.std.specs.Prelude.{◌≡◌, ◌-◌, ◌≤◌, ◌<◌, ◌↔◌, ℕ, [], ◌++◌, length, replicate, position, not, IfOk, IsErrOf, IsTrue, nat_eq};
+ghost use Rattle.std.specs.Prelude.{◌≡◌, ◌+◌, ◌-◌, ◌≤◌, ◌<◌, ◌↔◌, ℕ, [], ◌++◌, length, take, drop, replicate, position, not, IfOk, IsErrOf, IsTrue, nat_eq};
 ghost use Rattle.std.proofs.Common.{rules, refl, sym};
 ghost use Rattle.std.specs.Cmp.{partial_equiv_from_equiv, partial_order_from_total, partial_order_from_own_ties};
 ghost use Rattle.std.specs.Cmp.Lexicographic.{pointwise, slice_cmp, nat_list_eq_equiv, nat_list_cmp_total};
@@ -9,6 +9,7 @@ ghost use Rattle.std.specs.Hash as fed;
 ghost use Rattle.std.specs.Ordering.{nat_cmp, as_partial_cmp};
 ghost use Rattle.std.proofs.lemmas.Map.Text.{is_eq-slice_cmp};
 ghost use Rattle.file_names.specs.Names.{is_name_byte, is_file_name, IsTooLong, IsRefusedByte};
+ghost use Rattle.file_names.specs.WordOrder.{word_of};
 
 use nrt_base::{NoMemory, Share};
 use std::alloc::Global;
@@ -106,12 +107,53 @@ fn with_zeros(bytes: &[u8]) -> [u8; 64]
     filled
 }
 
+// Eight bytes from a place on, as a number of which the first is the highest.
+fn word(bytes: &[u8; 64], at: usize) -> u64
+    requires { at + 8 ≤ 64 }
+    ensures { result ≡ word_of (take 8 (drop at bytes.now)) }
+{
+    u64::from_be_bytes([
+        bytes[at],
+        bytes[at + 1],
+        bytes[at + 2],
+        bytes[at + 3],
+        bytes[at + 4],
+        bytes[at + 5],
+        bytes[at + 6],
+        bytes[at + 7],
+    ])
+}
+
+// The order of 64 bytes, eight at a time.
+fn order(a: &[u8; 64], b: &[u8; 64]) -> Ordering
+    ensures { result ≡ slice_cmp nat_cmp a.now b.now }
+{
+    let mut at = 0;
+    'words: while at < 64 {
+        let first = word(a, at);
+        let second = word(b, at);
+        if first != second {
+            return first.cmp(&second);
+        }
+        at += 8;
+    }
+    Ordering::Equal
+}
+
 impl FileName {
     pub fn as_slice(&self) -> &[u8]
         ensures bytes { result.now ≡ self.now }
         ensures kind { IsTrue (is_file_name self.now) }
     {
         &self.bytes[..self.len as usize]
+    }
+
+    // The name as text, which is tested for equality and hashed eight bytes at a time.
+    fn as_str(&self) -> &str
+        ensures { result.now ≡ self.now }
+    {
+        // Each of its bytes is one of ASCII.
+        unsafe { str::from_utf8_unchecked(self.as_slice()) }
     }
 }
 
@@ -154,7 +196,7 @@ impl PartialEq for FileName {
     ghost laws = { partial_equiv_from_equiv nat_list_eq_equiv };
 
     fn eq(&self, other: &FileName) -> bool {
-        self.as_slice() == other.as_slice()
+        self.as_str() == other.as_str()
     }
 }
 
@@ -163,12 +205,12 @@ impl Eq for FileName {
 }
 
 impl Hash for FileName {
-    ghost hash_input = { fed.slice fed.u8 };
+    ghost hash_input = { fed.str };
 
     ghost respects_eq = { Prim.search (hashing, rules) };
 
     fn hash<H: Hasher>(&self, state: &mut H) {
-        self.as_slice().hash(state);
+        self.as_str().hash(state);
     }
 }
 
@@ -192,6 +234,6 @@ impl Ord for FileName {
     ghost matches_eq = { λ a b. sym (is_eq-slice_cmp a b) };
 
     fn cmp(&self, other: &FileName) -> Ordering {
-        self.as_slice().cmp(&other.as_slice())
+        order(&self.bytes, &other.bytes)
     }
 }

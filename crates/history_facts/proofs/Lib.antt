@@ -1,3 +1,5 @@
+mod Reigns
+mod WalkLemmas
 mod DrawnLemmas
 pub mod TicketLemmas
 pub mod WrittenLemmas

@@ -1,3 +1,4 @@
 pub mod Generations
 pub mod Origins
 pub mod Openings
+pub mod Walks

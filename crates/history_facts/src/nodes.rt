@@ -1,7 +1,7 @@
 //! What a history shows of the nodes: which is the primary, which run, and what each searches.
 
-ghost use Rattle.std.specs.Prelude.{◌≡◌, ◌↔◌, ◌≤◌, reverse, length, IsTrue, []};
-ghost use Rattle.history_rules.specs.Nodes.{IsNode, IsReplica, is_at, primary_by, primary_of, primary_crashes, is_running, crashes, version_of, newest_version, is_made_in_generation, is_point, accepted_count};
+ghost use Rattle.std.specs.Prelude.{◌≡◌, ◌↔◌, reverse, IsTrue, []};
+ghost use Rattle.history_rules.specs.Nodes.{IsNode, IsReplica, is_at, primary_by, primary_of, primary_crashes, is_running, crashes, newest_version, is_made_in_generation, is_point, accepted_count};
 ghost use Rattle.history_rules.specs.Steps.{version_by};
 
 use history_rules::{Entry, Event};
@@ -133,17 +133,6 @@ impl Searched {
             _ => self,
         }
     }
-}
-
-/// The version that a node searches.
-pub fn version_of(n: NodeNo, entries: &[Entry]) -> u64
-    ensures { result ≡ version_of n.0 (reverse entries.now) }
-{
-    let mut searched = Searched::new();
-    for entry in entries {
-        searched = searched.after(n, &entry.event);
-    }
-    searched.version
 }
 
 /// The greatest version that was published or promoted, or 1.

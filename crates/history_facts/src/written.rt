@@ -2,12 +2,11 @@
 
 ghost use Rattle.std.specs.Prelude.{◌≡◌, ◌≤◌, ◌+◌, ◌∷◌, ◌++◌, reverse, length, IfOk, OnOk};
 ghost use Rattle.history_rules.specs.Nodes.{accepted_count};
-ghost use Rattle.history_rules.specs.Points.{operations_written, operations_at, operations_of_generation, documents_at};
+ghost use Rattle.history_rules.specs.Points.{operations_at, operations_of_generation, documents_at};
 ghost use Rattle.history_facts.specs.Origins.{operations_from, operations_before_generation, size_of};
 
-use crate::generation::accepted_in_generation;
 use crate::lines::before_start;
-use crate::nodes::{accepted_count, version_of};
+use crate::searched::version_of;
 use documents::{Op, apply};
 use history_rules::{Entry, Event};
 use nrt_base::{Doc, NoMemory, NodeNo, Share, Version};
@@ -116,34 +115,4 @@ pub fn documents_at(alloc: Global, entries: &[Entry], v: Version) -> Result<Vec<
 {
     let ops = operations_from(alloc, origin_of(v.0, entries))?;
     apply(alloc, ops.as_slice())
-}
-
-/// How many operations were written, where the generation started on so many.
-#[tactic(auto, using(crate::proofs::WrittenLemmas::written_length, crate::proofs::WrittenLemmas::written_few))]
-fn written_count(base: usize, entries: &[Entry]) -> usize
-    requires { base ≡ length (operations_before_generation (reverse entries.now)) }
-    ensures { result ≡ length (operations_written (reverse entries.now)) }
-{
-    let _most = accepted_count(entries);
-    base + accepted_in_generation(entries)
-}
-
-/// How many operations come from there. It takes no memory, and goes two calls deep for each generation.
-fn count_from(origin: Origin) -> usize
-    ensures { result ≡ length (operations_from origin.entry) }
-{
-    match origin {
-        Origin::Nothing => 0,
-        Origin::Written(entries) => written_count(count_from(generation_origin(entries)), entries),
-        Origin::Searched(n, entries) => count_from(origin_of(version_of(n, entries), entries)),
-    }
-}
-
-/// How many operations the point of a version has. It takes no memory.
-#[tactic(auto, using(crate::proofs::WrittenLemmas::point_few))]
-pub fn operation_count(entries: &[Entry], v: Version) -> usize
-    ensures count { result ≡ length (operations_at (reverse entries.now) v.0) }
-    ensures few { result ≤ accepted_count (reverse entries.now) }
-{
-    count_from(origin_of(v.0, entries))
 }

@@ -3,6 +3,8 @@
 ghost use Rattle.std.specs.Prelude.{◌≡◌, ◌<◌, ◌≤◌, ◌^◌, None, true, OnOk, OnErr, IfOk, IfSome, IsSome, IsErrOf, Ok, Err};
 ghost use Rattle.nrt_base.specs.Causes.{Rose};
 ghost use Rattle.commit_steps.specs.Commits.{ImagesHave};
+ghost use Rattle.file_deleter.specs.Removals.{directory_of};
+ghost use Rattle.commit_steps.specs.StepCalls.{StepCalls};
 ghost use Rattle.commit_steps.specs.Book.{commit_of, book_after, is_last_step, HasBegun};
 ghost use Rattle.searcher_switch.specs.Appearing.{AppearsOnly, IsNameInFlight};
 ghost use Rattle.index_primary.specs.Primary.{IsPrimary, KeepsHeldBytes};
@@ -48,6 +50,9 @@ impl<D: Dir> Primary<D> {
         ensures done { IfOk result (λ done. done ≡ is_last_step self.old.commits.stage) }
         ensures made { result ≡ Ok true → IfSome self.old.commits.stage (λ stage.
             ImagesHave (D.cells self.new.dir) (commit_of stage)) }
+        ensures calls { StepCalls self.old.commits.last self.old.files self.new.files
+            (directory_of D.cells D.plans D.faults self.old.dir)
+            (directory_of D.cells D.plans D.faults self.new.dir) result }
         ensures failed { IsErrOf result CommitFault.Failed
             → Rose (D.faults self.old.dir) (D.faults self.new.dir) }
         ensures err { OnErr result (self.new.commits ≡ self.old.commits) }

@@ -170,7 +170,15 @@ impl<D: Dir> Primary<D> {
 }
 
 impl<D: FaultDir> Primary<D> {
+    ghost use Rattle.disk_model.specs.Listed.{AreNamesOf};
     ghost use Rattle.index_primary.specs.Primary.{IsPrimary};
+
+    /// The names of its directory are those of the files that read. It changes nothing.
+    pub fn is_named(&self)
+        ensures { AreNamesOf (D.cells self.now.dir) (D.names self.now.dir) }
+    {
+        self.parts.dir.is_named();
+    }
 
     /// The k-th counted call of the directory from now fails once.
     pub fn plan(&mut self, k: u64)

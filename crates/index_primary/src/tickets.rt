@@ -34,6 +34,13 @@ impl<D: Dir> Primary<D> {
             .acquire(alloc, &mut self.parts.files, &self.parts.dir)
     }
 
+    /// The segments of the point that is searched.
+    pub fn readers(&self) -> &[Segment]
+        ensures { result.now ≡ self.now.searchers.point.readers }
+    {
+        self.parts.searchers.point.readers.as_slice()
+    }
+
     /// What a search under a ticket reads: the point on which the ticket was opened.
     pub fn lease(&self, alloc: Global, ticket: &Ticket) -> Result<Lease<Segment>, NoMemory>
         requires { is_some (ticket_at ticket.now.number self.now.searchers.tickets) ≡ true }

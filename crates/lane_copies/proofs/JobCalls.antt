@@ -7,7 +7,7 @@ use Rattle.std.proofs.lemmas.Option.{same_Some}
 use Rattle.std.proofs.Math.Bool.{and-false}
 use Rattle.history_tables.proofs.RowLemmas.{same_at_self, refused_closed}
 use Rattle.file_deleter.proofs.NameLemmas.{same_self}
-use Rattle.disk_model.specs.Disk.{Content, Name, same}
+use Rattle.disk_model.specs.Disk.{Content, same}
 use Rattle.nrt_base.specs.declared.numbers.At.{At}
 use Rattle.nrt_base.specs.declared.numbers.NodeNo.{NodeNo}
 use Rattle.nrt_base.specs.declared.numbers.Version.{Version}
@@ -35,9 +35,10 @@ use Rattle.cluster_nodes.specs.declared.tasks.FileTask.{FileTask}
 use Rattle.cluster_nodes.specs.declared.tasks.SettleTask.{SettleTask}
 use Rattle.cluster_state.specs.Run.{Run, IsNow}
 use Rattle.cluster_state.specs.FilesOut.{file_out, is_by, is_job}
+use Rattle.cluster_state.specs.DueFaults.{MeetsFate, fate_cause, with_due}
 use Rattle.cluster_state.specs.GivesUp.{met_log}
 use Rattle.cluster_state.specs.Copies.{newest_of, IsCopying, JobRuns, HandsFile, JobRefused, ended_log}
-use Rattle.cluster_state.proofs.MetLines.{met_start, met_open, met_high, met_job, met_settling}
+use Rattle.cluster_state.proofs.MetLines.{met_start, met_open, met_high, met_job, met_settling, due_start, due_open, due_high, due_job}
 use Rattle.cluster_state.specs.Settles.{IsLeft, IsSettling}
 use Rattle.cluster_state.specs.declared.standing.Standing.{Standing}
 use Rattle.cluster_state.specs.declared.standing.Standing.TheVariants.{Runs, Passed, Ends}
@@ -235,9 +236,25 @@ refused_leaves at task job cause old new mine refused =
       now = λ copy. ap (is_answered at) is ∙ refused_replied at (printed (met_log at old new)) cause;
     }
 
+-- behind the faults that a file meets too
+due_copying : (at by : At) (task : CopyTask) (n : ℕ) (log : Log) → IsCopyingBy at task log → IsCopyingBy at task (with_due false by n log)
+due_copying at by task n log c =
+    record {
+      row = c.row;
+      last = due_job at.lane.0 by n log ∙ c.last;
+      at_is = c.at_is;
+      node = c.node;
+      number = c.number;
+      line = c.line;
+      started = subst (IsJobStart task.node.0) (sym (due_start at by n log)) c.started;
+      is_open = λ none. c.is_open (sym (due_open at by n log) ∙ none);
+      ordered = subst (λ (k : ℕ). k < task.node.0) (sym (due_high at by n log)) c.ordered;
+    }
+
 hands_copying : (at : At) (task : CopyTask) (job : Job) (old new : Run) (file : FileTask) → job.at ≡ at → IsCopyingBy at task old.log → HandsFile job old new file → IsCopyingBy at task new.log
 hands_copying at task job old new file mine c hands =
-    let m : IsCopyingBy at task (met_log job.at old new) = subst (λ (a : At). IsCopyingBy at task (met_log a old new)) (sym mine) (met_copying at task old new c) in
+    let m : IsCopyingBy at task (with_due false job.at job.node.0 (met_log job.at old new)) =
+    due_copying at job.at task job.node.0 (met_log job.at old new) (subst (λ (a : At). IsCopyingBy at task (met_log a old new)) (sym mine) (met_copying at task old new c)) in
     subst (IsCopyingBy at task) (sym hands.now.log)
     (record {
       row = m.row;
@@ -263,8 +280,8 @@ handed_out : (at : At) (job : Job) (task : CopyTask) (old new : Run) (file : Fil
 handed_out at job task old new file mine node number hands =
     let out : Log → Content = file_out at task.node.0 task.job file.name in
     ap out hands.now.log
-    ∙ (ap (λ (b : Bool). if b && same file.name file.name then Some file.source else out (met_log job.at old new)) (is_job_here at task job mine node number)
-    ∙ ap (λ (b : Bool). if b then Some file.source else out (met_log job.at old new)) (same_self file.name))
+    ∙ (ap (λ (b : Bool). if b && same file.name file.name then Some file.source else out (with_due false job.at job.node.0 (met_log job.at old new))) (is_job_here at task job mine node number)
+    ∙ ap (λ (b : Bool). if b then Some file.source else out (with_due false job.at job.node.0 (met_log job.at old new))) (same_self file.name))
 
 ended_start : (at : At) (job : Job) (begun : Option Event) (log : Log) → start_entry at (printed (ended_log job begun log)) ≡ start_entry at (printed log)
 ended_start at job (Some (Copying n v)) log = refl
@@ -301,11 +318,12 @@ module _ (at : At) (task : CopyTask) (old new : Run) (c : IsCopyingBy at task ol
     where
       goes_on : (turn : Turn FileTask) → JobGoesOn copying.row.job old new turn → LeavesJobAt (HasFileOut at task) at task old new turn
       goes_on (Work file) hands = record {
-        start = ap (λ (l : Log). start_entry at (printed l)) hands.now.log ∙ start_met;
+        start = ap (λ (l : Log). start_entry at (printed l)) hands.now.log ∙ (due_start at copying.row.job.at copying.row.job.node.0 (met_log copying.row.job.at old new) ∙ start_met);
         settles = settling;
         now = record {
           copying = hands_copying at task copying.row.job old new file copying.at_is c hands;
           out = handed_out at copying.row.job task old new file copying.at_is copying.node copying.number hands;
+          met = subst (λ (z : At × NodeNo). MeetsFate file.fate z.0 z.1.0 (printed new.log)) (λ i. (copying.at_is i, copying.node i)) hands.met;
           meta = hands.meta;
           footer = hands.footer;
         };
@@ -329,14 +347,14 @@ module _ (at : At) (task : CopyTask) (old new : Run) (c : IsCopyingBy at task ol
       by (Some log) is = stops_here (HasFileOut at task) turn log is stops
       by None is = goes_on turn (ok copying.row (runs is) copying.at_is)
 
-  pub take_leaves : (name : Name) (turn : Turn (Unit {0})) → ((row : JobRow) → JobRuns old.log row → row.job.at ≡ at → JobTakes row.job name old new turn) → StopsAt at old new turn
+  pub take_leaves : (file : FileTask) (turn : Turn (Unit {0})) → ((row : JobRow) → JobRuns old.log row → row.job.at ≡ at → JobTakes row.job file old new turn) → StopsAt at old new turn
       → LeavesJobAt (λ taken. IsCopyingBy at task) at task old new turn
-  take_leaves name turn ok stops = by (stopped_log started.begun copying.row old.log) refl
+  take_leaves file turn ok stops = by (stopped_log started.begun copying.row old.log) refl
     where
-      goes_on : (turn : Turn (Unit {0})) → JobTakes copying.row.job name old new turn → LeavesJobAt (λ taken. IsCopyingBy at task) at task old new turn
+      goes_on : (turn : Turn (Unit {0})) → JobTakes copying.row.job file old new turn → LeavesJobAt (λ taken. IsCopyingBy at task) at task old new turn
       goes_on (Work done) takes =
-          leaves_met at task (IsCopyingBy at task) old new (subst (λ (a : At). IsNow old new (met_log a old new)) copying.at_is takes.0) (met_copying at task old new c)
-      goes_on Done refused = refused_leaves at task copying.row.job DiskFault old new copying.at_is refused
+          leaves_met at task (IsCopyingBy at task) old new (subst (λ (a : At). IsNow old new (met_log a old new)) copying.at_is takes.1) (met_copying at task old new c)
+      goes_on Done refused = refused_leaves at task copying.row.job (fate_cause file.fate file.name) old new copying.at_is refused
       goes_on Busy takes = absurd takes
 
       by : (o : Option Log) → stopped_log started.begun copying.row old.log ≡ o → LeavesJobAt (λ taken. IsCopyingBy at task) at task old new turn
@@ -445,10 +463,10 @@ module _ {E : Type 0} (at : At) (task : CopyTask) (old new : Run) (c : IsCopying
   on_next_leaves (Ok turn) ok stops settling = next_leaves at task old new c copying turn ok stops settling
   on_next_leaves (Err x) ok stops settling = tt
 
-  pub on_take_leaves : (name : Name) (r : Result (Turn (Unit {0})) E) → IfOk r (λ turn. (row : JobRow) → JobRuns old.log row → row.job.at ≡ at → JobTakes row.job name old new turn) → IfOk r (λ turn. StopsAt at old new turn)
+  pub on_take_leaves : (file : FileTask) (r : Result (Turn (Unit {0})) E) → IfOk r (λ turn. (row : JobRow) → JobRuns old.log row → row.job.at ≡ at → JobTakes row.job file old new turn) → IfOk r (λ turn. StopsAt at old new turn)
       → IfOk r (LeavesJobAt (λ taken. IsCopyingBy at task) at task old new)
-  on_take_leaves name (Ok turn) ok stops = take_leaves at task old new c copying name turn ok stops
-  on_take_leaves name (Err x) ok stops = tt
+  on_take_leaves file (Ok turn) ok stops = take_leaves at task old new c copying file turn ok stops
+  on_take_leaves file (Err x) ok stops = tt
 
 -- a settle that is not open has its reply
 pub closed_settle : (at : At) (r : Run) (left : SettleTask) (found : Bool) → (IsTrue found ↔ (open_line at (printed r.log) ≢ None)) → found ≡ false → HasBegunToSettle at left r.log → IsReplied at r

@@ -1,14 +1,21 @@
 -- What others append leaves a job of a line, and what a settle has left, where they are.
-use Rattle.std.proofs.Common.{◌≡◌, ◌≢◌, ◌≤◌, ◌<◌, ◌&&◌, ◌==◌, ℕ, Bool, true, false, [], ◌∷◌, ◌++◌, Some, None, Option, length, refl, ap, ◌∙◌, sym, subst, inl, inr, arith, if◌then◌else◌}
+use Rattle.std.proofs.Common.{◌≡◌, ◌≢◌, ◌≤◌, ◌<◌, ◌&&◌, ◌||◌, ◌==◌, ℕ, Bool, true, false, true≢false, [], ◌∷◌, ◌++◌, Some, None, Option, length, refl, ap, ◌∙◌, sym, subst, inl, inr, arith, if◌then◌else◌}
+use Rattle.std.specs.Prelude.{not}
+use Rattle.std.proofs.Math.Bool.{and-false}
+use Rattle.std.proofs.lemmas.Bool.{or_right}
 use Rattle.std.proofs.lemmas.Bool.Decides.{nat_tests}
 use Rattle.std.proofs.lemmas.List.Elements.{All-weaker}
 use Rattle.nrt_base.specs.declared.numbers.At.{At}
 use Rattle.nrt_base.specs.declared.numbers.NodeNo.{NodeNo}
 use Rattle.disk_model.specs.Disk.{Name, Content, same}
 use Rattle.history_rules.specs.declared.entry.Event.{Event}
-use Rattle.history_rules.specs.declared.entry.Event.TheVariants.{Fault as Met}
+use Rattle.history_rules.specs.declared.entry.Event.TheVariants.{Fault as Met, Merging}
+use Rattle.history_rules.specs.declared.entry.Entry.{Entry}
+use Rattle.history_rules.specs.declared.cause.FaultKind.{FaultKind}
+use Rattle.history_rules.specs.declared.cause.FaultKind.TheVariants.{Link, Damage}
+use Rattle.history_rules.specs.Faults.{has_fault, same_kind}
 use Rattle.history_rules.specs.Nodes.{Past, IsReplica, crashes, is_running, version_of}
-use Rattle.history_rules.specs.Lines.{same_at, before_start, highest_switched, NodeSurvives}
+use Rattle.history_rules.specs.Lines.{same_at, is_reply, is_answered, before_start, highest_switched, NodeSurvives}
 use Rattle.history_rules.specs.Points.{operations_of_generation}
 use Rattle.history_rules.specs.Legal.{IsLegalPast}
 use Rattle.history_rules.proofs.NodeLemmas.{crashes_rise, runs_through}
@@ -23,17 +30,24 @@ use Rattle.history_tables.specs.JobRows.{row_by, row_if_some, is_going, last_job
 use Rattle.history_book.specs.declared.inner.Inner.{Inner}
 use Rattle.history_book.specs.declared.inner.Inner.TheVariants.{JobBegun, FileOut, JobEnd}
 use Rattle.history_book.specs.declared.inner.Mark.TheVariants.{Shown, TaskFault, Kept}
-use Rattle.history_book.specs.Log.{Log, printed, lane_name, name_inside, FollowsMerging, FaultsFollow}
+use Rattle.history_book.specs.Log.{Log, printed, lane_name, name_inside, begins_merge, has_merging, FollowsMerging, FaultsFollow}
+use Rattle.history_book.specs.Turns.{AreInTurn}
+use Rattle.history_book.proofs.FreshLaws.{open_unanswered}
 use Rattle.history_book.specs.Jobs.{job_step, job_of}
 use Rattle.history_book.proofs.ReignLaws.{since_start, node_crashes_rise}
 use Rattle.lane_threads.specs.Walks.{NoneOf, GrowsByOthers, LineStays}
 use Rattle.lane_threads.proofs.WalkLemmas.{other_lane}
-use Rattle.lane_threads.proofs.StayLemmas.{other_line, more_printed}
+use Rattle.history_tables.proofs.RowLemmas.{by_test, same_at_is}
+use Rattle.lane_threads.proofs.StayLemmas.{merging_there, other_line, more_printed}
+use Rattle.link_model.specs.declared.fate.Fate.{Fate}
+use Rattle.link_model.specs.declared.fate.Fate.TheVariants.{Whole, Fail, Damage as DamageFate}
 use Rattle.cluster_nodes.specs.declared.tasks.CopyTask.{CopyTask}
+use Rattle.cluster_nodes.specs.declared.tasks.FileTask.{FileTask}
 use Rattle.cluster_nodes.specs.declared.tasks.SettleTask.{SettleTask}
+use Rattle.cluster_state.specs.DueFaults.{MeetsFate}
 use Rattle.cluster_state.specs.FilesOut.{file_out, handed_file, is_job}
 use Rattle.cluster_state.specs.Settles.{IsLeft, IsSettling}
-use Rattle.lane_copies.specs.Jobs.{IsJobStart, IsCopyingBy, IsStillSettling}
+use Rattle.lane_copies.specs.Jobs.{IsJobStart, IsCopyingBy, HasFileOut, IsStillSettling}
 
 -- ---- the line
 
@@ -120,6 +134,46 @@ out_apart at n number q (Shown e ∷ more) old h = out_apart at n number q more 
 out_apart at n number q (TaskFault e ∷ more) old h = out_apart at n number q more old h.1
 out_apart at n number q (Kept i ∷ more) old h = out_kept at n number q i (file_out at n number q (more ++ old)) h.0 ∙ out_apart at n number q more old h.1
 
+-- ---- what the line met
+
+-- a line with a merge has its reply
+merging_replied : (at : At) (past : Past) → has_merging at past ≡ true → is_answered at past ≡ true
+merging_replied at [] is = absurd (true≢false (sym is))
+merging_replied at (e ∷ past) is = step e.event (same_at e.at at) (has_merging at past) (λ was. merging_replied at past was) is
+  where
+    step : (x : Event) (s m : Bool) → (m ≡ true → is_answered at past ≡ true) → ((begins_merge x && s) || m) ≡ true → ((is_reply x && s) || is_answered at past) ≡ true
+    step (Merging seg) true m rest is = refl
+    step (Merging seg) false m rest is = rest is
+    step x s m rest is = or_right (is_reply x && s) (is_answered at past) (rest is)
+
+rest_false : (a b : Bool) → (a || b) ≡ false → b ≡ false
+rest_false true b is = absurd (true≢false is)
+rest_false false b is = is
+
+module _ (at : At) (node : ℕ → Bool) (kinds : FaultKind → Bool) where
+  -- the fault of a merge's task is none of a line that has no reply
+  not_mine : (a : At) (e : Event) (past : Past) → FollowsMerging a e past → is_answered at past ≡ false → same_at a at ≡ false
+  not_mine a e past f unanswered =
+      by_test (same_at a at) (λ b. b ≡ false)
+      (λ same. absurd (true≢false (sym (merging_replied at past (subst (λ (x : At). has_merging x past ≡ true) (same_at_is a at same) (merging_there a e past f))) ∙ unanswered)))
+      (λ other. refl)
+
+  met_step : (e : Entry) (past : Past) → same_at e.at at ≡ false → has_fault node kinds at (e ∷ past) ≡ has_fault node kinds at past
+  met_step e past other =
+      let hurt : Bool = elim e.event [ Met m met ↦ node m.0 && kinds met | _ ↦ false ] in
+      let was : Bool = has_fault node kinds at past in
+      ap (λ (t : Bool). (hurt && t) || was) other ∙ ap (λ (b : Bool). b || was) (and-false hurt)
+
+  met_apart : (more old : Log) → NoneOf at.lane.0 more → FaultsFollow (more ++ old) → is_answered at (printed (more ++ old)) ≡ false → has_fault node kinds at (printed (more ++ old)) ≡ has_fault node kinds at (printed old)
+  met_apart [] old h f unanswered = refl
+  met_apart (Shown e ∷ more) old h f unanswered =
+      met_step e (printed (more ++ old)) (other_line e.at at h.0)
+      ∙ met_apart more old h.1 f (rest_false (is_reply e.event && same_at e.at at) (is_answered at (printed (more ++ old))) unanswered)
+  met_apart (TaskFault e ∷ more) old h f unanswered =
+      let rest : is_answered at (printed (more ++ old)) ≡ false = rest_false (is_reply e.event && same_at e.at at) (is_answered at (printed (more ++ old))) unanswered in
+      met_step e (printed (more ++ old)) (not_mine e.at e.event (printed (more ++ old)) f.0 rest) ∙ met_apart more old h.1 f.1 rest
+  met_apart (Kept i ∷ more) old h f unanswered = met_apart more old h.1 f unanswered
+
 -- ---- together
 
 module _ {logged : Bool} (at : At) (old new : Log) (grows : GrowsByOthers logged at.lane.0 old new) (stays : LineStays at old new) where
@@ -134,6 +188,19 @@ module _ {logged : Bool} (at : At) (old new : Log) (grows : GrowsByOthers logged
 
   pub out_stays : (n number : ℕ) (q : Name) → file_out at n number q new ≡ file_out at n number q old
   out_stays n number q = ap (file_out at n number q) grows.log ∙ out_apart at n number q grows.more old grows.apart
+
+  met_stays : is_answered at (printed new) ≡ false → (node : ℕ → Bool) (kinds : FaultKind → Bool) → has_fault node kinds at (printed new) ≡ has_fault node kinds at (printed old)
+  met_stays unanswered node kinds =
+      ap (λ (l : Log). has_fault node kinds at (printed l)) grows.log
+      ∙ met_apart at node kinds grows.more old grows.apart follow (subst (λ (l : Log). is_answered at (printed l) ≡ false) grows.log unanswered)
+
+  -- what makes of a file what becomes of it
+  fate_stays : is_answered at (printed new) ≡ false → (fate : Fate) (n : ℕ) → MeetsFate fate at n (printed old) → MeetsFate fate at n (printed new)
+  fate_stays unanswered Whole n met = tt
+  fate_stays unanswered Fail n met = met_stays unanswered (λ m. m == n) (same_kind Link) ∙ met
+  fate_stays unanswered (DamageFate byte) n met =
+      met_stays unanswered (λ k. (k == n) && not (has_fault (λ m. m == k) (same_kind Link) at (printed new))) (same_kind Damage)
+      ∙ ((λ i. has_fault (λ k. (k == n) && not (met_stays unanswered (λ m. m == k) (same_kind Link) i)) (same_kind Damage) at (printed old)) ∙ met)
 
   pub copying_stays : (task : CopyTask) → IsCopyingBy at task old → IsCopyingBy at task new
   copying_stays task c =
@@ -150,6 +217,18 @@ module _ {logged : Bool} (at : At) (old new : Log) (grows : GrowsByOthers logged
         started = subst (IsJobStart task.node.0) (sym stays.start) c.started;
         is_open = λ none. c.is_open (sym open_stays ∙ none);
         ordered = subst (λ (k : ℕ). k < task.node.0) (sym high_stays) c.ordered;
+      }
+
+  -- a file that is out to the job
+  pub file_stays : AreInTurn (printed new) → (task : CopyTask) (file : FileTask) → HasFileOut at task file old → HasFileOut at task file new
+  file_stays turns task file has =
+      let copying : IsCopyingBy at task new = copying_stays task has.copying in
+      record {
+        copying = copying;
+        out = out_stays task.node.0 task.job file.name ∙ has.out;
+        met = fate_stays (open_unanswered at (printed new) turns copying.is_open) file.fate task.node.0 has.met;
+        meta = has.meta;
+        footer = has.footer;
       }
 
 -- ---- what a settle has left

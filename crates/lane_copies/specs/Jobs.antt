@@ -23,6 +23,7 @@ use Rattle.cluster_nodes.specs.declared.tasks.CopyTask.{CopyTask}
 use Rattle.cluster_nodes.specs.declared.tasks.FileTask.{FileTask}
 use Rattle.cluster_nodes.specs.declared.tasks.SettleTask.{SettleTask}
 use Rattle.cluster_state.specs.Run.{Run}
+use Rattle.cluster_state.specs.DueFaults.{MeetsFate}
 use Rattle.cluster_state.specs.FilesOut.{file_out}
 use Rattle.cluster_state.specs.Settles.{IsSettling}
 use Rattle.cluster_state.specs.declared.turn.Turn.{Turn}
@@ -53,10 +54,11 @@ pub record IsCopyingBy (at : At) (task : CopyTask) (log : Log) : Type 0 where
   pub is_open : open_line at (printed log) ≢ None
   pub ordered : highest_switched at (printed log) < task.node.0
 
--- a file is out to the job
+-- a file is out to the job, and the line has met what makes of it what becomes of it
 pub record HasFileOut (at : At) (task : CopyTask) (file : FileTask) (log : Log) : Type 0 where
   pub copying : IsCopyingBy at task log
   pub out : file_out at task.node.0 task.job file.name log ≡ Some file.source
+  pub met : MeetsFate file.fate at task.node.0 (printed log)
   pub meta : IsMetaOf file.source file.meta
   pub footer : HasFooter file.source
 

@@ -1,20 +1,19 @@
 //! The calls of a job, where the lock is held.
 
-ghost use Rattle.std.specs.Prelude.{◌≡◌, false, Some, OnOk, OnErr, IfOk};
-ghost use Rattle.copy_state.specs.Meta.{IsMetaOf};
+ghost use Rattle.std.specs.Prelude.{◌≡◌, false, OnOk, OnErr, IfOk};
 ghost use Rattle.history_rules.specs.declared.entry.Event.{Event};
 ghost use Rattle.history_rules.specs.Lines.{start_entry};
 ghost use Rattle.history_book.specs.Log.{printed};
 ghost use Rattle.script_serving.specs.declared.script.LineCommand.{LineCommand};
 ghost use Rattle.script_serving.specs.declared.script.LineCommand.TheVariants.{Settle};
-ghost use Rattle.cluster_state.specs.FilesOut.{file_out};
+ghost use Rattle.cluster_state.specs.DueFaults.{ArrivesBy};
 ghost use Rattle.lane_sections.specs.Given.{DoesAtSite};
 ghost use Rattle.cluster_state.specs.CopyCalls.{CopiesFor};
 ghost use Rattle.lane_sections.specs.Turns.{TurnShows};
 ghost use Rattle.lane_copies.specs.Jobs.{IsCopyingBy, HasFileOut, LeavesJobAt, IsStillSettling, HasBegunToSettle, BeginsNextJob, IsSettlingOn};
 
 use cluster_nodes::{CopyTask, FileTask, SettleTask};
-use copy_job::Part;
+use copy_job::{JobFault, Part};
 use disk_model::FaultDir;
 use lane_sections::{Site, Turn};
 use nrt_base::{At, NoMemory};
@@ -42,19 +41,18 @@ pub fn next_file<D: FaultDir + Drop>(
     site.copy_next(alloc, at, task)
 }
 
-/// Takes a part of a file that was handed out to a job.
+/// Takes what arrived of a file that was handed out to a job.
 pub fn take_part<D: FaultDir + Drop>(
     site: &mut Site<D>,
     alloc: Global,
     at: At,
     task: &CopyTask,
-    part: Part,
+    file: &FileTask,
+    arrived: Result<Part, JobFault>,
 ) -> Result<Turn<()>, NoMemory>
     requires running { site.old.run.ended ≡ false }
-    requires copying { IsCopyingBy at task.now site.old.run.log }
-    requires out { file_out at task.now.node.0 task.now.job part.name site.old.run.log
-        ≡ Some part.bytes }
-    requires meta { IsMetaOf part.bytes part.meta }
+    requires out { HasFileOut at task.now file.now site.old.run.log }
+    requires arrives { ArrivesBy file.now arrived }
     ensures ok { IfOk result (LeavesJobAt (λ taken. IsCopyingBy at task.now) at task.now
         site.old.run site.new.run) }
     ensures err { OnErr result (site.new.run.log ≡ site.old.run.log) }
@@ -65,7 +63,7 @@ pub fn take_part<D: FaultDir + Drop>(
     if !site.has_job(at.lane) {
         return Err(AllocError);
     }
-    site.copy_arrived(alloc, at, task, part)
+    site.copy_arrived(alloc, at, task, file, arrived)
 }
 
 // A copy of what a settle has left.

@@ -1,9 +1,9 @@
 //! Files, carried over a link that passes the gate before each chunk.
 
-ghost use Rattle.std.specs.Prelude.{◌≡◌, IfOk};
+ghost use Rattle.std.specs.Prelude.{◌≡◌, ◌≢◌, IfOk, OnOk};
 ghost use Rattle.codec_frame.specs.Checking.{HasFooter};
 ghost use Rattle.copy_state.specs.Meta.{IsMetaOf};
-ghost use Rattle.copy_job.specs.Copying.{IsPartOf};
+ghost use Rattle.cluster_state.specs.DueFaults.{ArrivesBy};
 
 use bytes::Bytes;
 use cluster_nodes::FileTask;
@@ -57,33 +57,36 @@ impl<'g, G: Gate, L: Link> Link for GateLink<'g, G, L> {
     }
 }
 
-// Want of memory, where nothing else kept a file back.
-fn want_of_memory(fault: JobFault) -> NoMemory
-    requires { fault ≡ JobFault.Memory }
+// What kept a file back, where that was not want of memory.
+fn but_memory(fault: JobFault) -> Result<JobFault, NoMemory>
+    ensures same { IfOk result (λ kept. kept ≡ fault) }
+    ensures other { OnOk result (fault ≢ JobFault.Memory) }
 {
     match fault {
-        JobFault::Memory => AllocError,
-        JobFault::LinkFailed => unreachable!(),
-        JobFault::Damaged { .. } => unreachable!(),
-        JobFault::DirFailed => unreachable!(),
-        JobFault::NameClash { .. } => unreachable!(),
+        JobFault::Memory => Err(AllocError),
+        JobFault::LinkFailed => Ok(JobFault::LinkFailed),
+        JobFault::Damaged { name, want, found } => Ok(JobFault::Damaged { name, want, found }),
+        JobFault::DirFailed => Ok(JobFault::DirFailed),
+        JobFault::NameClash { name, ours, theirs } => {
+            Ok(JobFault::NameClash { name, ours, theirs })
+        }
     }
 }
 
-/// Carries a file whole to a node. It fails when out of memory.
+/// Carries a file to a node, over a link that does to it what becomes of it. It fails when out of memory.
 pub fn carry<G: Gate>(
     alloc: Global,
     gate: &G,
     at: At,
     node: NodeNo,
     file: &FileTask,
-) -> Result<Part, NoMemory>
+) -> Result<Result<Part, JobFault>, NoMemory>
     requires meta { IsMetaOf file.now.source file.now.meta }
     requires footer { HasFooter file.now.source }
-    ensures { IfOk result (IsPartOf file.now.name file.now.source file.now.meta) }
+    ensures { IfOk result (ArrivesBy file.now) }
 {
     let mut link = GateLink {
-        link: MemLink::new(alloc),
+        link: MemLink::new(alloc).with_fate(file.fate),
         gate,
         line: at.line,
         node,
@@ -91,7 +94,10 @@ pub fn carry<G: Gate>(
         chunks: 0,
     };
     match copy_file(alloc, &mut link, &file.source, &file.name, &file.meta) {
-        Ok(part) => Ok(part),
-        Err(fault) => Err(want_of_memory(fault)),
+        Ok(part) => Ok(Ok(part)),
+        Err(fault) => {
+            let kept = but_memory(fault)?;
+            Ok(Err(kept))
+        }
     }
 }

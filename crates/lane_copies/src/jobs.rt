@@ -1,15 +1,14 @@
 //! A job, file after file. Each call is a section, and between them files are carried.
 
-ghost use Rattle.std.specs.Prelude.{◌≡◌, Some, OnOk, IfOk};
-ghost use Rattle.copy_state.specs.Meta.{IsMetaOf};
-ghost use Rattle.cluster_state.specs.FilesOut.{file_out};
+ghost use Rattle.std.specs.Prelude.{OnOk, IfOk};
+ghost use Rattle.cluster_state.specs.DueFaults.{ArrivesBy};
 ghost use Rattle.lane_threads.specs.Seats.{log_seen, IsLaneSeat};
 ghost use Rattle.lane_copies.specs.Jobs.{IsCopyingBy, HasFileOut, IsCopyReplied, StepsJob, TurnsJob};
 
 use crate::calls::{next_file, take_part};
 use crate::carrying::carry;
 use cluster_nodes::{CopyTask, FileTask};
-use copy_job::Part;
+use copy_job::{JobFault, Part};
 use disk_model::FaultDir;
 use hist_lock::LaneSeat;
 use lane_sections::{Gate, Lanes, Site, Turn, enter_site};
@@ -35,24 +34,23 @@ fn hand_out<R: Wait, D: FaultDir + Drop, G: Gate>(
     answer
 }
 
-// Brings a part back to its job.
+// Brings back to its job what arrived of a file.
 fn bring_back<R: Wait, D: FaultDir + Drop, G: Gate>(
     lanes: &Lanes<'_, R, D, G>,
     seat: &mut LaneSeat<Site<D>>,
     at: At,
     task: &CopyTask,
-    part: Part,
+    file: &FileTask,
+    arrived: Result<Part, JobFault>,
 ) -> Result<Turn<()>, NoMemory>
     requires seat { IsLaneSeat lanes.now.setup.log lanes.now.lock.now at.lane.0 seat.old }
-    requires copying { IsCopyingBy at task.now (log_seen seat.old) }
-    requires out { file_out at task.now.node.0 task.now.job part.name (log_seen seat.old)
-        ≡ Some part.bytes }
-    requires meta { IsMetaOf part.bytes part.meta }
+    requires out { HasFileOut at task.now file.now (log_seen seat.old) }
+    requires arrives { ArrivesBy file.now arrived }
     ensures { IfOk result (TurnsJob lanes.now.setup.log (λ taken. IsCopyingBy at task.now)
         lanes.now.setup.nodes lanes.now.lock.now at task.now seat.old seat.new) }
 {
     let mut held = enter_site(lanes, seat, at)?;
-    let answer = take_part(held.value(), lanes.alloc, at, task, part);
+    let answer = take_part(held.value(), lanes.alloc, at, task, file, arrived);
     leave(lanes.lock, at.lane, seat, held);
     answer
 }
@@ -70,8 +68,8 @@ fn bring_file<R: Wait, D: FaultDir + Drop, G: Gate>(
     ensures { IfOk result (TurnsJob lanes.now.setup.log (λ taken. IsCopyingBy at task.now)
         lanes.now.setup.nodes lanes.now.lock.now at task.now seat.old seat.new) }
 {
-    let part = carry(lanes.alloc, lanes.gate, at, task.node, file)?;
-    bring_back(lanes, seat, at, task, part)
+    let arrived = carry(lanes.alloc, lanes.gate, at, task.node, file)?;
+    bring_back(lanes, seat, at, task, file, arrived)
 }
 
 /// Brings over what a job lacks, file after file, until it has ended.

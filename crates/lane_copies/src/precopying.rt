@@ -1,15 +1,14 @@
 //! Copies of merged segments, file after file. Each call is a section, and between them files are carried.
 
-ghost use Rattle.std.specs.Prelude.{◌≡◌, Some, IfOk, OnOk};
-ghost use Rattle.copy_state.specs.Meta.{IsMetaOf};
+ghost use Rattle.std.specs.Prelude.{IfOk, OnOk};
 ghost use Rattle.history_rules.specs.Nodes.{IsNode};
-ghost use Rattle.merge_tasks.specs.TaskLog.{carried_out};
+ghost use Rattle.cluster_state.specs.DueFaults.{ArrivesBy};
 ghost use Rattle.lane_threads.specs.Seats.{log_seen, IsLaneSeat};
 ghost use Rattle.lane_copies.specs.Taken.{IsTakerAt, IsCarriedIn, WorksOn, HandsOn};
 
 use crate::carrying::carry;
 use cluster_nodes::FileTask;
-use copy_job::Part;
+use copy_job::{JobFault, Part};
 use disk_model::FaultDir;
 use hist_lock::LaneSeat;
 use lane_sections::{Gate, Lanes, Site, Turn, enter_site, give_way};
@@ -38,25 +37,28 @@ fn hand_out<R: Wait, D: FaultDir + Drop, G: Gate>(
     answer
 }
 
-// Brings a part back to the copy of a task.
+// Brings back to the copy of a task what arrived of a file.
 fn bring_back<R: Wait, D: FaultDir + Drop, G: Gate>(
     lanes: &Lanes<'_, R, D, G>,
     seat: &mut LaneSeat<Site<D>>,
     at: At,
     task: &Task,
     copy: Sent,
-    part: Part,
+    file: &FileTask,
+    arrived: Result<Part, JobFault>,
 ) -> Result<Turn<()>, NoMemory>
     requires seat { IsLaneSeat lanes.now.setup.log lanes.now.lock.now at.lane.0 seat.old }
     requires by { IsTakerAt at task.now.by }
     requires node { IsNode lanes.now.setup.nodes copy.node.0 }
-    requires out { carried_out part.name (log_seen seat.old) ≡ Some part.bytes }
-    requires meta { IsMetaOf part.bytes part.meta }
+    requires out { IsCarriedIn file.now (log_seen seat.old) }
+    requires arrives { ArrivesBy file.now arrived }
     ensures { OnOk result (WorksOn lanes.now.setup.log lanes.now.lock.now at.lane.0 task.now.by
         seat.old seat.new) }
 {
     let mut held = enter_site(lanes, seat, at)?;
-    let answer = held.value().precopy_arrived(lanes.alloc, task, copy, part);
+    let answer = held
+        .value()
+        .precopy_arrived(lanes.alloc, task, copy, file, arrived);
     leave(lanes.lock, at.lane, seat, held);
     answer
 }
@@ -81,8 +83,8 @@ fn bring_file<R: Wait, D: FaultDir + Drop, G: Gate>(
         lane: at.lane,
         line: task.line,
     };
-    let part = carry(lanes.alloc, lanes.gate, line, copy.node, file)?;
-    bring_back(lanes, seat, at, task, copy, part)
+    let arrived = carry(lanes.alloc, lanes.gate, line, copy.node, file)?;
+    bring_back(lanes, seat, at, task, copy, file, arrived)
 }
 
 /// Copies the files of a merged segment to a node, until the task has ended. Its end may post the task to cut over.

@@ -46,7 +46,7 @@ pub fn advice(script: &[u8], number: LineNo, cause: LineFault) -> Option<Advice<
     let line = line_of(script, number);
     let text = text_of(line);
     match cause {
-        LineFault::NoNodes | LineFault::NotBuilt => None,
+        LineFault::NoNodes => None,
         LineFault::Word => Some(word_advice(text)),
         LineFault::Count => Some(count_advice(text)),
         LineFault::Range => match word(text, 0) {

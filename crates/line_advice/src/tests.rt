@@ -162,10 +162,6 @@ fn causes(rt: HostRuntime) -> Result<(), Fail> {
             LineFault::Text,
             "a byte is not printable: ASCII from the space to `~` is wanted",
         ),
-        (
-            LineFault::NotBuilt,
-            "the program does not run this line yet",
-        ),
     ] {
         assert_eq!(rt; cause.to_string(alloc)?.as_str(), want);
     }

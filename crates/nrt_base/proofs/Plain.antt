@@ -2,16 +2,19 @@
 -- std has those of `&&` and `||` (`and_parts`, `and_from`, `or_cases`, ..), of `<` and `≤` as tests (`ltb-true`, `leb-true`, `eqb-true`, ..)
 -- and of `Some` (`same_Some`, `none-some`).
 use Rattle.std.proofs.Common.{◌≡◌, ◌≤◌, ◌<◌, ◌+◌, ℕ, zero, suc, Bool, true, false, List, [], ◌∷◌, ◌++◌, length, get_or, Some, Result, Ok, Err, inl, inr, refl, sym, ap, subst, ◌∙◌, arith}
-use Rattle.std.specs.Prelude.{IsTrue, nat_le, ◌⊎◌}
-use Rattle.std.specs.List.{All, Contains, slice_get}
+use Rattle.std.specs.Prelude.{IsTrue, nat_le, slice_index, ◌⊎◌}
+use Rattle.std.specs.List.{All, Contains, list_all, slice_get}
 use Rattle.std.specs.List.Sorted.{IsStrictlySortedBy}
 use Rattle.std.specs.Ordering.{ordering_then}
+use Rattle.std.specs.Str.{IsUtf8}
 use Rattle.std.specs.declared.cmp.Ordering.{Ordering}
 use Rattle.std.specs.declared.cmp.Ordering.TheVariants.{Less, Equal, Greater}
 use Rattle.std.proofs.lemmas.Bool.{leb-true, and_parts}
 use Rattle.std.proofs.lemmas.Bool.Decides.{nat_tests}
 use Rattle.std.proofs.lemmas.List.{append_assoc}
-use Rattle.nrt_base.specs.Bytes.{is_between}
+use Rattle.std.proofs.lemmas.Str.{IsUtf8-from_ascii}
+use Rattle.std.proofs.lemmas.Str.Ascii.{IsAscii-nil}
+use Rattle.nrt_base.specs.Bytes.{is_between, is_key_byte, is_word_byte, is_key, is_word}
 
 -- ---- lists
 
@@ -50,9 +53,32 @@ slice_get-push (x ∷ xs) y = slice_get-push xs y
 pub moved_over : {X : Type 0} (old new one rest rest_now whole : List X) → rest ≡ one ++ rest_now → old ++ rest ≡ whole → new ≡ old ++ one → new ++ rest_now ≡ whole
 moved_over {X} old new one rest rest_now whole split so_far put = ap (λ (xs : List X). xs ++ rest_now) put ∙ append_assoc old one rest_now ∙ sym (ap (λ (xs : List X). old ++ xs) split) ∙ so_far
 
+all_below : (p : ℕ → Bool) → ((b : ℕ) → p b ≡ true → b < 128) → (bytes : List ℕ) → list_all p bytes ≡ true → (i : ℕ) → slice_index bytes i < 128
+all_below p low [] h i = IsAscii-nil i
+all_below p low (b ∷ bytes) h zero = low b (and_parts (p b) (list_all p bytes) h).0
+all_below p low (b ∷ bytes) h (suc i) = all_below p low bytes (and_parts (p b) (list_all p bytes) h).1 i
+
+-- bytes are text where each passes a test that takes bytes of ASCII alone
+pub text_from_test : (p : ℕ → Bool) → ((b : ℕ) → p b ≡ true → b < 128) → (bytes : List ℕ) → list_all p bytes ≡ true → IsUtf8 bytes
+text_from_test p low bytes h = IsUtf8-from_ascii bytes (all_below p low bytes h)
+
 pub sorted_none : {K : Type 0} (cmp : K → K → Ordering) → IsStrictlySortedBy cmp []
 unfolding IsStrictlySortedBy
 sorted_none cmp = tt
+
+-- ---- bytes
+
+is_ascii-key_byte : (b : ℕ) → is_key_byte b ≡ true → b < 128
+is_ascii-key_byte b h = grind (arith, nat_tests, h)
+
+is_ascii-word_byte : (b : ℕ) → is_word_byte b ≡ true → b < 128
+is_ascii-word_byte b h = grind (arith, nat_tests, h)
+
+pub key_is_text : (bytes : List ℕ) → is_key bytes ≡ true → IsUtf8 bytes
+key_is_text bytes h = text_from_test is_key_byte is_ascii-key_byte bytes (and_parts (is_between 1 64 (length bytes)) (list_all is_key_byte bytes) h).1
+
+pub word_is_text : (bytes : List ℕ) → is_word bytes ≡ true → IsUtf8 bytes
+word_is_text bytes h = text_from_test is_word_byte is_ascii-word_byte bytes (and_parts (nat_le 1 (length bytes)) (list_all is_word_byte bytes) h).1
 
 -- ---- pairs
 

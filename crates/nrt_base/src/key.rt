@@ -51,6 +51,14 @@ impl Key {
     {
         self.bytes.as_slice()
     }
+
+    // The key as text, which is compared and hashed eight bytes at a time.
+    fn as_str(&self) -> &str
+        ensures { result.now ≡ self.now }
+    {
+        // Each of its bytes is one of ASCII.
+        unsafe { str::from_utf8_unchecked(self.as_slice()) }
+    }
 }
 
 /// The key as it is.
@@ -75,7 +83,7 @@ impl PartialEq for Key {
     ghost laws = { partial_equiv_from_equiv nat_list_eq_equiv };
 
     fn eq(&self, other: &Key) -> bool {
-        self.as_slice() == other.as_slice()
+        self.as_str() == other.as_str()
     }
 }
 
@@ -84,12 +92,12 @@ impl Eq for Key {
 }
 
 impl Hash for Key {
-    ghost hash_input = { fed.slice fed.u8 };
+    ghost hash_input = { fed.str };
 
     ghost respects_eq = { Prim.search (hashing, rules) };
 
     fn hash<H: Hasher>(&self, state: &mut H) {
-        self.as_slice().hash(state);
+        self.as_str().hash(state);
     }
 }
 
@@ -113,6 +121,6 @@ impl Ord for Key {
     ghost matches_eq = { λ a b. sym (is_eq-slice_cmp a b) };
 
     fn cmp(&self, other: &Key) -> Ordering {
-        self.as_slice().cmp(&other.as_slice())
+        self.as_str().cmp(other.as_str())
     }
 }

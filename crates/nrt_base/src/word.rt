@@ -50,6 +50,14 @@ impl Word {
     {
         self.bytes.as_slice()
     }
+
+    // The word as text, which is compared and hashed eight bytes at a time.
+    fn as_str(&self) -> &str
+        ensures { result.now ≡ self.now }
+    {
+        // Each of its bytes is one of ASCII.
+        unsafe { str::from_utf8_unchecked(self.as_slice()) }
+    }
 }
 
 impl Share for Word {
@@ -64,7 +72,7 @@ impl PartialEq for Word {
     ghost laws = { partial_equiv_from_equiv nat_list_eq_equiv };
 
     fn eq(&self, other: &Word) -> bool {
-        self.as_slice() == other.as_slice()
+        self.as_str() == other.as_str()
     }
 }
 
@@ -73,12 +81,12 @@ impl Eq for Word {
 }
 
 impl Hash for Word {
-    ghost hash_input = { fed.slice fed.u8 };
+    ghost hash_input = { fed.str };
 
     ghost respects_eq = { Prim.search (hashing, rules) };
 
     fn hash<H: Hasher>(&self, state: &mut H) {
-        self.as_slice().hash(state);
+        self.as_str().hash(state);
     }
 }
 
@@ -102,6 +110,6 @@ impl Ord for Word {
     ghost matches_eq = { λ a b. sym (is_eq-slice_cmp a b) };
 
     fn cmp(&self, other: &Word) -> Ordering {
-        self.as_slice().cmp(&other.as_slice())
+        self.as_str().cmp(other.as_str())
     }
 }

@@ -14,7 +14,8 @@ use Rattle.wire_frames.proofs.StreamLaws.{are_messages, fault_stays, never_fault
 use Rattle.index_check.specs.Images.{NamedFile, IsImageOf, IsNoImage}
 use Rattle.nrt_main.specs.declared.status.Status.{Status}
 use Rattle.nrt_main.specs.declared.status.Status.TheVariants.{Done, ReadFault, WriteFault, Memory, TooLarge, BadIndex, BadImage, BadStream}
-use Rattle.nrt_main.specs.Headline.{IsRunnable, TakesMore, AnswersWhole}
+use Rattle.script_text.specs.Grammar.{SpellsScript}
+use Rattle.nrt_main.specs.Headline.{TakesMore, AnswersWhole}
 use Rattle.nrt_main.specs.Complete.{NoneFailed, Offers, OffersScript, OffersMessages, OffersImage, IsDoneOrMemory, IsCheckedOrMemory}
 use Rattle.nrt_main.specs.Pictures.{has_report, AnswersShown, OffersShown}
 use Rattle.nrt_main.proofs.FrameAnswers.{more_taken}
@@ -80,7 +81,7 @@ module _ (left after : Option (List ℕ)) (r s w x : ℕ) (answer : Status) (rea
       by : AnswersWhole left after answer → IsDoneOrMemory answer
       by whole =
           let same : whole.bytes ≡ o.bytes = gave_all left after o.bytes o.offered whole.bytes whole.read.taken whole.read.ended in
-          elim (whole.given.runs o.script (subst (λ (b : List ℕ). IsRunnable b o.script) (sym same) o.runnable)) [
+          elim (whole.given.runs o.script (subst (λ (b : List ℕ). SpellsScript b o.script) (sym same) o.grammar)) [
             | inl done ↦ inl done
             | inr failed ↦ absurd (no_write failed)
           ]
@@ -92,7 +93,7 @@ module _ (left after : Option (List ℕ)) (r s w x : ℕ) (answer : Status) (rea
       let whole = answers read large memory in
       let same : whole.bytes ≡ o.bytes = gave_all left after o.bytes o.offered whole.bytes whole.read.taken whole.read.ended in
       record { bytes = whole.bytes; read = whole.read; given = whole.given.script (ap has_report same ∙ o.none) })
-      (record { bytes = o.bytes; offered = o.offered; script = o.script; runnable = o.runnable })
+      (record { bytes = o.bytes; offered = o.offered; script = o.script; grammar = o.grammar })
 
 -- ---- a load
 

@@ -9,10 +9,11 @@ use Rattle.history_book.specs.Log.{printed}
 use Rattle.history_book.specs.Told.{IsTold}
 use Rattle.report_text.specs.Texts.{text_of_entry, text_of}
 use Rattle.script_serving.specs.declared.script.Script.{Script}
+use Rattle.script_text.specs.Grammar.{SpellsScript}
 use Rattle.script_serving.specs.Serves.{Serves}
 use Rattle.cluster_state.specs.Run.{Run}
 use Rattle.cluster_run.specs.Running.{history_of}
-use Rattle.nrt_main.specs.Headline.{IsRunnable, HasRun, ReadWhole, Answers, AnswersInPart, LeavesRun, LeavesRunInPart}
+use Rattle.nrt_main.specs.Headline.{HasRun, ReadWhole, Answers, AnswersInPart, LeavesRun, LeavesRunInPart}
 use Rattle.nrt_main.specs.TopCalls.{IsReport, LeavesText, LeavesFront}
 
 -- the text of the entries of a cluster is that of its history
@@ -22,9 +23,9 @@ report_is script r entries text running legal serves told is spelled =
     let same : entries ≡ reverse (printed r.log) = sym (reverse-reverse entries) ∙ ap (λ (es : List Entry). reverse es) is in
     record { running = running; legal = legal; serves = serves; told = told; is = spelled ∙ ap (flat_map text_of_entry) same }
 
-module _ (bytes : List ℕ) (script : Script) (r : Run) (text : List ℕ) (before after : Option (List ℕ)) (runnable : IsRunnable bytes script) (report : IsReport script r text) where
+module _ (bytes : List ℕ) (script : Script) (r : Run) (text : List ℕ) (before after : Option (List ℕ)) (grammar : SpellsScript bytes script) (report : IsReport script r text) where
   has_run : HasRun bytes r
-  has_run = record { script = script; runnable = runnable; running = report.running; legal = report.legal; serves = report.serves; told = report.told }
+  has_run = record { script = script; grammar = grammar; running = report.running; legal = report.legal; serves = report.serves; told = report.told }
 
   pub leaves_text : Appends before after text → LeavesText bytes before after r
   leaves_text written = record { ran = has_run; written = subst (Appends before after) report.is written }
@@ -34,11 +35,11 @@ module _ (bytes : List ℕ) (script : Script) (r : Run) (text : List ℕ) (befor
 
 module _ (bytes : List ℕ) (r : Run) (before after : Option (List ℕ)) where
   pub answers_text : LeavesText bytes before after r → Answers bytes before after
-  answers_text left = record { script = left.ran.script; runnable = left.ran.runnable; history = history_of r; legal = left.ran.legal; serves = left.ran.serves; written = left.written }
+  answers_text left = record { script = left.ran.script; grammar = left.ran.grammar; history = history_of r; legal = left.ran.legal; serves = left.ran.serves; written = left.written }
 
   pub answers_front : LeavesFront bytes before after r → AnswersInPart bytes before after
   answers_front left =
-      record { script = left.ran.script; runnable = left.ran.runnable; history = history_of r; legal = left.ran.legal; serves = left.ran.serves; front = left.front; written = left.written }
+      record { script = left.ran.script; grammar = left.ran.grammar; history = history_of r; legal = left.ran.legal; serves = left.ran.serves; front = left.front; written = left.written }
 
   pub leaves_run : (left_before left_after : Option (List ℕ)) → ReadWhole left_before left_after bytes → LeavesText bytes before after r → LeavesRun left_before left_after before after r
   leaves_run left_before left_after read left = record { bytes = bytes; read = read; ran = left.ran; written = left.written }

@@ -8,10 +8,10 @@ use Rattle.history_rules.specs.declared.entry.Entry.{Entry}
 use Rattle.history_rules.specs.Legal.{IsLegal}
 use Rattle.history_book.specs.Log.{printed}
 use Rattle.script_serving.specs.declared.script.Script.{Script}
+use Rattle.script_text.specs.Grammar.{SpellsScript}
 use Rattle.script_serving.specs.Serves.{Serves}
 use Rattle.cluster_state.specs.Run.{Run}
 use Rattle.cluster_run.specs.Running.{history_of}
-use Rattle.nrt_main.specs.Headline.{IsRunnable}
 use Rattle.nrt_main.specs.declared.status.Status.{Status}
 use Rattle.nrt_main.specs.declared.status.Status.TheVariants.{Done, WriteFault, BadReport}
 use Rattle.report_judge.specs.declared.judgement.Judgement.TheVariants.{Legal}
@@ -26,13 +26,13 @@ run_shown show script r entries text legal serves is shown =
     let same : entries ≡ reverse (printed r.log) = sym (reverse-reverse entries) ∙ ap (λ (es : List Entry). reverse es) is in
     record { history = history_of r; legal = legal; serves = serves; is = shown ∙ (λ i. show (sym serves.nodes i) (same i)) }
 
-module _ (show : ℕ → List Entry → List ℕ) (bytes : List ℕ) (script : Script) (text : List ℕ) (before after : Option (List ℕ)) (runnable : IsRunnable bytes script)
+module _ (show : ℕ → List Entry → List ℕ) (bytes : List ℕ) (script : Script) (text : List ℕ) (before after : Option (List ℕ)) (grammar : SpellsScript bytes script)
     (shown : ShowsScript show script text) where
   pub shows_whole : Appends before after text → Shows show bytes before after
-  shows_whole written = record { script = script; runnable = runnable; text = text; shown = shown; written = written }
+  shows_whole written = record { script = script; grammar = grammar; text = text; shown = shown; written = written }
 
   pub shows_front : (n : ℕ) → Appends before after (take n text) → ShowsInPart show bytes before after
-  shows_front n written = record { script = script; runnable = runnable; text = text; shown = shown; front = n; written = written }
+  shows_front n written = record { script = script; grammar = grammar; text = text; shown = shown; front = n; written = written }
 
 module _ (show : ℕ → List Entry → List ℕ) (bytes text : List ℕ) (before after : Option (List ℕ)) where
   pub writes_report : ShowsReport show bytes text → Appends before after text → WritesReport show bytes before after

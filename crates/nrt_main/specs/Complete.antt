@@ -1,12 +1,13 @@
 -- When the program does all that it was asked for: source and sink did not fail, and what the source has left is as it should be.
 use Rattle.std.specs.Prelude.{ℕ, ◌≡◌, ◌≤◌, ◌⊎◌, List, [], length, Option, Some}
 use Rattle.script_serving.specs.declared.script.Script.{Script}
+use Rattle.script_text.specs.Grammar.{SpellsScript}
 use Rattle.wire_frames.specs.declared.message.Message.{Message}
 use Rattle.wire_frames.specs.Streams.{AreMessagesOf}
 use Rattle.index_check.specs.Images.{NamedFile, IsImageOf}
 use Rattle.nrt_main.specs.declared.status.Status.{Status}
 use Rattle.nrt_main.specs.declared.status.Status.TheVariants.{Done, Memory, BadIndex}
-use Rattle.nrt_main.specs.Headline.{longest, IsRunnable}
+use Rattle.nrt_main.specs.Headline.{longest}
 
 -- no read failed, and no write
 pub record NoneFailed (reads_before reads_after writes_before writes_after : ℕ) : Type 0 where
@@ -18,12 +19,12 @@ pub record Offers (left : Option (List ℕ)) (bytes : List ℕ) : Type 0 where
   pub is : left ≡ Some bytes
   pub within : length bytes ≤ longest
 
--- a source has a script left that the program runs
+-- a source has a script left
 pub record OffersScript (left : Option (List ℕ)) : Type 0 where
   pub bytes : List ℕ
   pub offered : Offers left bytes
   pub script : Script
-  pub runnable : IsRunnable bytes script
+  pub grammar : SpellsScript bytes script
 
 -- a source has a stream of whole messages left
 pub record OffersMessages (left : Option (List ℕ)) : Type 0 where

@@ -7,14 +7,12 @@ use Rattle.history_rules.specs.Legal.{IsLegal}
 use Rattle.history_book.specs.Told.{IsTold}
 use Rattle.report_text.specs.Texts.{text_of}
 use Rattle.script_text.specs.declared.fault.LineFault.{LineFault}
-use Rattle.script_text.specs.declared.fault.LineFault.TheVariants.{NotBuilt}
 use Rattle.script_serving.specs.declared.script.Script.{Script}
 use Rattle.script_serving.specs.Serves.{Serves}
 use Rattle.script_text.specs.Grammar.{SpellsScript}
 use Rattle.script_text.specs.Refused.{IsFirstRefused}
 use Rattle.cluster_state.specs.Run.{Run}
 use Rattle.cluster_run.specs.Running.{history_of}
-use Rattle.nrt_main.specs.Built.{IsFirstUnbuilt, RunsWhole}
 use Rattle.nrt_main.specs.declared.status.Status.{Status}
 use Rattle.nrt_main.specs.declared.status.Status.TheVariants.{Done, BadScript, WriteFault}
 
@@ -26,15 +24,10 @@ IsRun words = words ≡ codes "run" ∷ []
 abbrev pub longest : ℕ
 longest = 16777216
 
--- the bytes spell this script, and the program runs its every statement
-pub record IsRunnable (bytes : List ℕ) (script : Script) : Type 0 where
-  pub grammar : SpellsScript bytes script
-  pub built : RunsWhole bytes
-
--- the bytes are a script that the program runs, and the sink gained the text of a legal history that serves it
+-- the bytes are a script, and the sink gained the text of a legal history that serves it
 pub record Answers (bytes : List ℕ) (before after : Option (List ℕ)) : Type 0 where
   pub script : Script
-  pub runnable : IsRunnable bytes script
+  pub grammar : SpellsScript bytes script
   pub history : History
   pub legal : IsLegal history
   pub serves : Serves script history
@@ -44,7 +37,7 @@ pub record Answers (bytes : List ℕ) (before after : Option (List ℕ)) : Type 
 -- entry tells what is so of inner work
 pub record HasRun (bytes : List ℕ) (r : Run) : Type 0 where
   pub script : Script
-  pub runnable : IsRunnable bytes script
+  pub grammar : SpellsScript bytes script
   pub running : r.ended ≡ false
   pub legal : IsLegal (history_of r)
   pub serves : Serves script (history_of r)
@@ -62,10 +55,10 @@ pub record Ran (left_before left_after held_before held_after : Option (List ℕ
   pub read : ReadWhole left_before left_after bytes
   pub answers : Answers bytes held_before held_after
 
--- the bytes are a script that the program runs, and the sink gained the front of the text of a legal history that serves it
+-- the bytes are a script, and the sink gained the front of the text of a legal history that serves it
 pub record AnswersInPart (bytes : List ℕ) (before after : Option (List ℕ)) : Type 0 where
   pub script : Script
-  pub runnable : IsRunnable bytes script
+  pub grammar : SpellsScript bytes script
   pub history : History
   pub legal : IsLegal history
   pub serves : Serves script history
@@ -93,21 +86,16 @@ pub record LeavesRunInPart (left_before left_after held_before held_after : Opti
   pub front : ℕ
   pub written : Appends held_before held_after (take front (text_of (history_of r)))
 
--- line n of the bytes is refused for this cause: as the grammar says; or, of a script, as the first that the program does not run yet
-abbrev pub RefusesLine : List ℕ → ℕ → LineFault → Type 0
-RefusesLine bytes n NotBuilt = (script : Script) × SpellsScript bytes script × IsFirstUnbuilt bytes n
-RefusesLine bytes n cause = IsFirstRefused bytes n cause
-
 -- the source was read to its end, and this line of what it gave is refused for this cause
 pub record Refuses (before after : Option (List ℕ)) (n : ℕ) (cause : LineFault) : Type 0 where
   pub bytes : List ℕ
   pub read : ReadWhole before after bytes
-  pub refused : RefusesLine bytes n cause
+  pub refused : IsFirstRefused bytes n cause
 
 -- the answer to these bytes: the line of them that is refused and why, or that the script which they are was run
 pub record IsAnswer (bytes : List ℕ) (answer : Status) : Type 0 where
-  pub refusals : (n : LineNo) (cause : LineFault) → RefusesLine bytes n.0 cause → answer ≡ BadScript n cause
-  pub runs : (script : Script) → IsRunnable bytes script → (answer ≡ Done) ⊎ (answer ≡ WriteFault)
+  pub refusals : (n : LineNo) (cause : LineFault) → IsFirstRefused bytes n.0 cause → answer ≡ BadScript n cause
+  pub runs : (script : Script) → SpellsScript bytes script → (answer ≡ Done) ⊎ (answer ≡ WriteFault)
 
 -- the source was read to its end, and this is the answer to what it gave
 pub record AnswersWhole (before after : Option (List ℕ)) (answer : Status) : Type 0 where

@@ -11,10 +11,11 @@ use Rattle.history_rules.specs.declared.entry.Entry.{Entry}
 use Rattle.history_rules.specs.declared.entry.History.{History}
 use Rattle.history_rules.specs.Legal.{IsLegal}
 use Rattle.script_serving.specs.declared.script.Script.{Script}
+use Rattle.script_text.specs.Grammar.{SpellsScript}
 use Rattle.script_serving.specs.Serves.{Serves}
 use Rattle.run_picture.specs.Picture.{picture_of}
 use Rattle.run_drawing.specs.Drawing.{drawing_of}
-use Rattle.nrt_main.specs.Headline.{IsRunnable, ReadWhole, RefusesLine, IsAnswer}
+use Rattle.nrt_main.specs.Headline.{ReadWhole, IsAnswer}
 use Rattle.nrt_main.specs.Judge.{IsJudged, IsJudgeAnswer}
 use Rattle.nrt_main.specs.Complete.{Offers}
 use Rattle.nrt_main.specs.declared.status.Status.{Status}
@@ -45,18 +46,18 @@ pub record ShowsScript (show : ℕ → List Entry → List ℕ) (script : Script
   pub serves : Serves script history
   pub is : text ≡ show history.nodes history.entries
 
--- the bytes are a script that the program runs, and the sink gained what is shown of a legal history that serves it
+-- the bytes are a script, and the sink gained what is shown of a legal history that serves it
 pub record Shows (show : ℕ → List Entry → List ℕ) (bytes : List ℕ) (before after : Option (List ℕ)) : Type 0 where
   pub script : Script
-  pub runnable : IsRunnable bytes script
+  pub grammar : SpellsScript bytes script
   pub text : List ℕ
   pub shown : ShowsScript show script text
   pub written : Appends before after text
 
--- the bytes are a script that the program runs, and the sink gained the front of what is shown of a legal history that serves it
+-- the bytes are a script, and the sink gained the front of what is shown of a legal history that serves it
 pub record ShowsInPart (show : ℕ → List Entry → List ℕ) (bytes : List ℕ) (before after : Option (List ℕ)) : Type 0 where
   pub script : Script
-  pub runnable : IsRunnable bytes script
+  pub grammar : SpellsScript bytes script
   pub text : List ℕ
   pub shown : ShowsScript show script text
   pub front : ℕ
@@ -113,7 +114,7 @@ ShowsSourceInPart show bytes before after = ByReport bytes (ShowsInPart show byt
 
 -- a line of a script alone is refused; or one of the script before a report
 abbrev pub RefusesSource : List ℕ → ℕ → LineFault → Type 0
-RefusesSource bytes n cause = ByReport bytes (RefusesLine bytes n cause) (IsFirstRefused (script_part bytes) n cause)
+RefusesSource bytes n cause = ByReport bytes (IsFirstRefused bytes n cause) (IsFirstRefused (script_part bytes) n cause)
 
 -- the answer to a script alone, or to a script and its report
 abbrev pub IsShowAnswer : List ℕ → Status → Type 0
@@ -143,10 +144,10 @@ pub record AnswersShown (before after : Option (List ℕ)) (answer : Status) : T
   pub read : ReadWhole before after bytes
   pub given : IsShowAnswer bytes answer
 
--- a source has a script left that the program runs, and no report
+-- a source has a script left, and no report
 pub record OffersShown (left : Option (List ℕ)) : Type 0 where
   pub bytes : List ℕ
   pub offered : Offers left bytes
   pub none : has_report bytes ≡ false
   pub script : Script
-  pub runnable : IsRunnable bytes script
+  pub grammar : SpellsScript bytes script

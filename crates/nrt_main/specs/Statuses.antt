@@ -1,7 +1,7 @@
 -- The numbers that the program ends with, and those of the causes that it names.
 use Rattle.std.specs.Prelude.{ℕ}
 use Rattle.script_text.specs.declared.fault.LineFault.{LineFault}
-use Rattle.script_text.specs.declared.fault.LineFault.TheVariants.{NoNodes, Word, Count, Range, Query, Text, NotBuilt}
+use Rattle.script_text.specs.declared.fault.LineFault.TheVariants.{NoNodes, Word, Count, Range, Query, Text}
 use Rattle.nrt_main.specs.declared.status.Status.{Status}
 use Rattle.nrt_main.specs.declared.status.Status.TheVariants.{Done, Usage, BadScript, ReadFault, WriteFault, Memory, TooLarge, BadIndex, BadImage, BadStream, BadReport}
 
@@ -27,4 +27,3 @@ cause_number Count = 3
 cause_number Range = 4
 cause_number (Query fault) = 5
 cause_number Text = 6
-cause_number NotBuilt = 7

@@ -6,15 +6,16 @@ use Rattle.history_book.specs.Told.{IsTold}
 use Rattle.report_text.specs.Texts.{text_of}
 use Rattle.script_serving.specs.declared.script.Script.{Script}
 use Rattle.script_serving.specs.Serves.{Serves}
+use Rattle.script_text.specs.Refused.{IsFirstRefused}
 use Rattle.nrt_main.specs.declared.status.Status.{Status}
 use Rattle.nrt_main.specs.declared.status.Status.TheVariants.{BadScript, Memory}
 use Rattle.cluster_state.specs.Run.{Run}
 use Rattle.cluster_run.specs.Running.{history_of}
-use Rattle.nrt_main.specs.Headline.{RefusesLine, HasRun}
+use Rattle.nrt_main.specs.Headline.{HasRun}
 
 -- the answer to bytes of which nothing is run: a line of them that is refused and why, or want of memory
 abbrev pub IsRefusal : List ℕ → Status → Type 0
-IsRefusal bytes (BadScript n cause) = RefusesLine bytes n.0 cause
+IsRefusal bytes (BadScript n cause) = IsFirstRefused bytes n.0 cause
 IsRefusal bytes Memory = ⊤
 IsRefusal bytes answer = ⊥
 

@@ -5,7 +5,6 @@
 ghost use Rattle.std.specs.Prelude.{◌≡◌};
 ghost use Rattle.nrt_main.specs.Statuses.{cause_number};
 
-mod built;
 mod checking;
 mod gate;
 mod judging;
@@ -69,7 +68,6 @@ fn cause_number(cause: LineFault) -> u8
         LineFault::Range => 4,
         LineFault::Query(_) => 5,
         LineFault::Text => 6,
-        LineFault::NotBuilt => 7,
     }
 }
 

@@ -5,7 +5,7 @@ ghost use Rattle.nrt_base.specs.Causes.{Rose};
 ghost use Rattle.script_serving.specs.Form.{IsInForm};
 ghost use Rattle.script_text.specs.Refused.{IsFirstRefused};
 ghost use Rattle.report_judge.specs.Sources.{script_part};
-ghost use Rattle.nrt_main.specs.Headline.{RefusesLine, IsAnswer, TakesWithin, TakesMore, longest};
+ghost use Rattle.nrt_main.specs.Headline.{IsAnswer, TakesWithin, TakesMore, longest};
 ghost use Rattle.nrt_main.specs.Judge.{TellsIllegal, IsScriptRefusal, IsJudgeAnswer, FoundIllegal};
 ghost use Rattle.nrt_main.specs.Pictures.{picture_by, ShowsScript, Shows, ShowsInPart, has_report as has_report_lem, ShowsJudged, WritesReport, WritesReportInPart, ShowsSource, ShowsSourceInPart, RefusesSource, IsShowAnswer, Showed, ShowedInPart, RefusesShown, AnswersShown};
 
@@ -142,7 +142,7 @@ fn show_script<R: Threads + Wait + Sync, K: Sink, G: Gate + Sync>(
     ensures part { result ≡ Status.WriteFault
         → ShowsInPart (picture_by kind) bytes.now (K.held sink.old) (K.held sink.new) }
     ensures bad { (n : LineNo) (cause : LineFault) → result ≡ Status.BadScript n cause
-        → RefusesLine bytes.now n.0 cause }
+        → IsFirstRefused bytes.now n.0 cause }
     ensures answers { result ≢ Status.Memory → IsAnswer bytes.now result }
     ensures write { result ≡ Status.WriteFault → Rose (K.fault_count sink.old)
         (K.fault_count sink.new) }

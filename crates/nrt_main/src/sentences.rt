@@ -11,8 +11,8 @@ fn sentences(rt: HostRuntime) -> Result<(), Fail> {
     let alloc = rt.alloc();
     for (status, want) in [
         (
-            Status::BadScript(LineNo(3), LineFault::NotBuilt),
-            "line 3: the program does not run this line yet",
+            Status::BadScript(LineNo(3), LineFault::Count),
+            "line 3: a word is missing, or there is one too many",
         ),
         (Status::ReadFault, "standard input cannot be read"),
         (Status::WriteFault, "standard output cannot be written"),

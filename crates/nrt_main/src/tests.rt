@@ -253,23 +253,6 @@ fn refused_lines(rt: HostRuntime) -> Result<(), Fail> {
     Ok(())
 }
 
-#[test]
-fn lines_not_built(rt: HostRuntime) -> Result<(), Fail> {
-    let rows: &[(&[u8], u32)] = &[
-        (b"nodes 2\n1 merge 2\n1 drain 9\n1 fault link 2 1", 4),
-        (b"nodes 3\n8 commit 3\njoin\n2 fault damage 1 1 40", 4),
-    ];
-    for (script, line) in rows {
-        let (status, text) = run(&rt, rt.alloc(), &[b"run"], script, &[], &[])?;
-        assert_eq!(rt;
-            status,
-            Status::BadScript(LineNo(*line), LineFault::NotBuilt)
-        );
-        assert!(rt; text.is_empty());
-    }
-    Ok(())
-}
-
 // A replica that crashes before it has committed.
 const UNCOMMITTED: &[u8] =
     b"nodes 2\n1 put a x\n1 publish\n1 copy 2\n1 crash 2 0\n1 search 2 x\n1 reopen 2\n1 search 2 x\n1 files 2\n";

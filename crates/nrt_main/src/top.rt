@@ -3,7 +3,9 @@
 ghost use Rattle.std.specs.Prelude.{◌≡◌, ◌≤◌, length, ◌<◌, ◌-◌, ◌^◌, ◌↔◌, ◌≢◌, ℕ, [], ◌∷◌, None, IsTrue, IsSomeAnd, IfOk, IfErr};
 ghost use Rattle.nrt_base.specs.Causes.{Rose};
 ghost use Rattle.script_serving.specs.Form.{IsInForm};
-ghost use Rattle.nrt_main.specs.Headline.{Ran, Answers, RanInPart, AnswersInPart, IsRunnable, RefusesLine, IsAnswer, AnswersWhole, Refuses, IsRun, LeavesRun, LeavesRunInPart, TakesWithin, TakesMore, longest};
+ghost use Rattle.script_text.specs.Grammar.{SpellsScript};
+ghost use Rattle.script_text.specs.Refused.{IsFirstRefused};
+ghost use Rattle.nrt_main.specs.Headline.{Ran, Answers, RanInPart, AnswersInPart, IsAnswer, AnswersWhole, Refuses, IsRun, LeavesRun, LeavesRunInPart, TakesWithin, TakesMore, longest};
 ghost use Rattle.wire_frames.specs.Runs.{GaveBadStream, GaveMore};
 ghost use Rattle.nrt_main.specs.Frames.{IsFrames, RanFrames, RanFramesInPart, IsFramesAnswer};
 ghost use Rattle.nrt_main.specs.Check.{IsCheck, RanCheck, FoundWrong, RanCheckInPart, GaveNoImage, AnswersCheck};
@@ -16,7 +18,6 @@ ghost use Rattle.nrt_main.specs.Pictures.{IsPicture, IsDrawing, IsShowing, Showe
 ghost use Rattle.nrt_main.specs.Rows.{IsKnownRow};
 ghost use Rattle.nrt_main.specs.TopCalls.{IsRefusal, IsReport, LeavesText, LeavesFront};
 
-use crate::built::first_not_built;
 use crate::checking::check_source;
 use crate::judging::judge_source;
 use crate::loading::{load, load_asked};
@@ -36,23 +37,18 @@ use std::sync::Wait;
 use std::thread::Threads;
 use wire_frames::{FramesEnd, run_frames};
 
-/// The script that the bytes are, where the program runs its every statement; else the answer to them.
-#[tactic(auto, using(crate::proofs::AnswerLaws::refused_line))]
+/// The script that the bytes are; else the answer to them.
 pub fn read_script(alloc: Global, bytes: &[u8]) -> Result<Script, Status>
     requires { length bytes.now ≤ longest }
-    ensures script { IfOk result (IsRunnable bytes.now) }
+    ensures script { IfOk result (SpellsScript bytes.now) }
     ensures form { IfOk result IsInForm }
     ensures refusal { IfErr result (IsRefusal bytes.now) }
 {
-    let script = match parse_script(alloc, bytes) {
-        Ok(script) => script,
-        Err(ScriptFault::BadScript(line, cause)) => return Err(Status::BadScript(line, cause)),
-        Err(ScriptFault::Memory) => return Err(Status::Memory),
+    match parse_script(alloc, bytes) {
+        Ok(script) => Ok(script),
+        Err(ScriptFault::BadScript(line, cause)) => Err(Status::BadScript(line, cause)),
+        Err(ScriptFault::Memory) => Err(Status::Memory),
         Err(ScriptFault::TooLarge) => unreachable!(),
-    };
-    match first_not_built(bytes) {
-        None => Ok(script),
-        Some(line) => Err(Status::BadScript(line, LineFault::NotBuilt)),
     }
 }
 
@@ -87,7 +83,7 @@ fn run_bytes<R: Threads + Wait + Sync, K: Sink, G: Gate + Sync>(
     ensures part { result ≡ Status.WriteFault → AnswersInPart bytes.now (K.held sink.old)
         (K.held sink.new) }
     ensures bad { (n : LineNo) (cause : LineFault) → result ≡ Status.BadScript n cause
-        → RefusesLine bytes.now n.0 cause }
+        → IsFirstRefused bytes.now n.0 cause }
     ensures answers { result ≢ Status.Memory → IsAnswer bytes.now result }
     ensures write { result ≡ Status.WriteFault → Rose (K.fault_count sink.old)
         (K.fault_count sink.new) }
@@ -229,10 +225,10 @@ fn frames_source<S: Source, K: Sink>(alloc: Global, source: &mut S, sink: &mut K
 /// The whole program.
 ///
 /// `run`: it reads a script from the source, runs it, and writes its report to the sink. Where it is done, the source
-/// was read to its end, its bytes are a script that the program runs, and the sink gained the text of a legal history
+/// was read to its end, its bytes are a script, and the sink gained the text of a legal history
 /// that serves that script. Then, and where the sink failed, `kept` has the cluster that ran it: it has not ended, the text is that of
 /// its history, and each printed entry tells what is so of inner work. `BadScript` names the first line that is refused,
-/// and why; for the cause `NotBuilt` the bytes are a script, and it is the first line that the program does not run yet.
+/// and why.
 ///
 /// `frames`: it reads a stream of frames from the source, and writes a line for each message to the sink. Where it is
 /// done, the source was read to its end, and the sink gained the lines of the messages of its bytes, and nothing else.

@@ -1,11 +1,10 @@
 mod HitLemmas
-mod AdvanceLemmas
-mod RestLemmas
+mod WordRowLemmas
+mod WindowLemmas
 mod BestLemmas
 mod RowLemmas
 mod SearchLemmas
 mod WordLemmas
-mod NotLemmas
 mod BuildLemmas
 mod PhraseLemmas
 mod PassLemmas
@@ -13,5 +12,4 @@ mod PlaceLemmas
 mod ReaderLemmas
 mod AnswerLemmas
 mod TestLaws
-mod RankLemmas
 mod FormLemmas

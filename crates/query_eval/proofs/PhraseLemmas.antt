@@ -1,14 +1,15 @@
 -- The words of a phrase, as they are moved together.
-use Rattle.std.proofs.Common.{◌≡◌, ℕ, ◌+◌, ◌^◌, ◌<◌, ◌≤◌, List, [], ◌∷◌, map, Bool, true, false, Option, Some, None, refl, sym, ap, subst, ◌∙◌, inl, inr, max, arith}
-use Rattle.std.specs.Prelude.{nat_eq, nat_lt, count_by, if◌then◌else◌}
-use Rattle.std.proofs.lemmas.Bool.{cases_lt, and_right, or_parts}
+use Rattle.std.proofs.Common.{◌≡◌, ℕ, ◌+◌, ◌-◌, ◌^◌, ◌<◌, ◌≤◌, List, [], ◌∷◌, length, map, Bool, true, false, Option, Some, None, refl, sym, ap, subst, ◌∙◌, inl, inr, min, arith}
+use Rattle.std.specs.Prelude.{nat_eq, nat_lt, count_by, slice_index, if◌then◌else◌}
+use Rattle.std.specs.Int.{bit_at}
+use Rattle.std.proofs.lemmas.Bool.{cases_lt, cases_eq, lt-ltb, and_right, or_parts}
 use Rattle.std.proofs.lemmas.List.Sums.{sum_by-cons}
+use Rattle.std.proofs.lemmas.Nat.Bits.{bit_at-zero}
 use Rattle.query_eval.specs.Places.{has_place}
 use Rattle.postings_plain.specs.Postings.{Hit}
 use Rattle.postings_plain.specs.Rows.{first_positions}
-use Rattle.query_eval.specs.Advance.{FindsRow, from_least}
-use Rattle.query_eval.proofs.AdvanceLemmas.{least_rises, first_of_least, none_of_least}
 use Rattle.query_eval.specs.Phrases.{has_row, places_in, follow, times_together, phrase_times, phrase_in, all_have, IsMoved, AreMoved, AreFewer, IsPass, AreAligned, StandAt}
+use Rattle.query_eval.specs.Windows.{bit_of, SetsBit, AddsAt, MarksRow, IsBound, HasBound, HasMarked}
 
 moved_not : (row : ℕ) (hits : List Hit) → IsMoved row hits hits
 moved_not row hits = record { rows = λ x le. refl; places = λ x le. refl; fewer = λ x e. e }
@@ -76,96 +77,186 @@ no_times x (h ∷ words) e = by_test (has_row h x) refl e
 pub no_phrase : (x : ℕ) (words : List (List Hit)) → all_have words x ≡ false → phrase_in words x ≡ false
 no_phrase x words e = ap (nat_lt 0) (no_times x words e)
 
--- what the words of a phrase keep where rows from the least on are still to be asked for
-pub record IsSought (old now : List (List Hit)) (start least : ℕ) : Type 0 where
-  pub from : start ≤ least
-  pub moved : AreMoved least old now
-  pub between : (x : ℕ) → start ≤ x → x < least → phrase_in old x ≡ false
-
-pub sought_start : (words : List (List Hit)) (row : ℕ) → IsSought words words row row
-sought_start words row = record { from = omega arith; moved = are_moved_not row words; between = λ x le lt. absurd (omega (arith, le, lt)) }
-
 pub same_times : (row x : ℕ) (a b : List (List Hit)) → AreMoved row a b → row ≤ x → phrase_times b x ≡ phrase_times a x
 same_times row x a b m le = ap times_together (same_places row x a b m le)
 
-same_phrase : (row x : ℕ) (a b : List (List Hit)) → AreMoved row a b → row ≤ x → phrase_in b x ≡ phrase_in a x
-same_phrase row x a b m le = ap (nat_lt 0) (same_times row x a b m le)
+-- ---- the rows of a window in which a phrase stands
 
--- what is known once the words are aligned at a row
-pub record IsAt (old next : List (List Hit)) (start found : ℕ) : Type 0 where
-  pub from : start ≤ found
-  pub moved : AreMoved found old next
-  pub between : (x : ℕ) → start ≤ x → x < found → phrase_in old x ≡ false
-  pub here : phrase_in old found ≡ nat_lt 0 (times_together (map first_positions next))
-
-at_found : (old now next : List (List Hit)) (start least found : ℕ) → IsSought old now start least → AreAligned now next least (Some found) → IsAt old next start found
-at_found old now next start least found k a =
-    let up : least ≤ found = a.0 in
-    let from : start ≤ least = k.from in
-    let moved = are_moved_on least found old now next up k.moved a.1 in
-    record {
-      from = omega (arith, from, up);
-      moved = moved;
-      between = λ x le lt. elim (cases_lt x least) [
-        | inl below ↦ k.between x le below
-        | inr ge ↦ no_phrase x old (sym (same_rows least x old now k.moved ge) ∙ a.2 x ge lt)
-      ];
-      here = sym (same_phrase found found old next moved (omega arith)) ∙ ap (λ ps. nat_lt 0 (times_together ps)) (sym a.4);
-    }
-
--- what is known once it was counted how often they stand together there
-pub at_counted : (old now next after : List (List Hit)) (start least found times : ℕ) → IsSought old now start least → AreAligned now next least (Some found)
-    → times ≡ times_together (map first_positions next) → after ≡ next → IsAt old after start found × (phrase_in old found ≡ nat_lt 0 times)
-at_counted old now next after start least found times k a e same =
-    let at = at_found old now next start least found k a in
-    (subst (λ (words : List (List Hit)). IsAt old words start found) (sym same) at, at.here ∙ ap (nat_lt 0) (sym e))
-
--- they stand together there
-pub sought_found : (old next : List (List Hit)) (before row found : ℕ) → IsAt old next (max row before) found → phrase_in old found ≡ true
-    → FindsRow (from_least before (phrase_in old)) (from_least found (phrase_in next)) row (Some found)
-sought_found old next before row found k stands = record {
-  first = first_of_least (phrase_in old) before row found k.from stands k.between;
-  stays = least_rises (phrase_in old) (phrase_in next) before found row k.from k.between (λ x le. same_phrase found x old next k.moved le);
-}
-
-up_to : (old : List (List Hit)) (start found x : ℕ) → ((y : ℕ) → start ≤ y → y < found → phrase_in old y ≡ false) → phrase_in old found ≡ false → start ≤ x → x < found + 1 → phrase_in old x ≡ false
-up_to old start found x between none le lt = elim (cases_lt x found) [
-  | inl below ↦ between x le below
-  | inr above ↦ let e : found ≡ x = omega (arith, lt, above) in ap (phrase_in old) (sym e) ∙ none
+-- what aligning leaves, from the row on
+aligned_times : (old new : List (List Hit)) (row : ℕ) (found : Option ℕ) → AreAligned old new row found → AreFewer old new → (x : ℕ) → row ≤ x → phrase_times new x ≡ phrase_times old x
+aligned_times old new row None a fewer x le = no_times x new (fewer x (a x le)) ∙ sym (no_times x old (a x le))
+aligned_times old new row (Some found) a fewer x le = elim (cases_lt x found) [
+  | inl lt ↦ no_times x new (fewer x (a.2 x le lt)) ∙ sym (no_times x old (a.2 x le lt))
+  | inr ge ↦ same_times found x old new a.1 ge
 ]
 
-later : (row to : ℕ) (old now : List (List Hit)) → row ≤ to → AreMoved row old now → AreMoved to old now
-later row to old now le m = are_moved_on row to old now now le m (are_moved_not to now)
+none_before : (old new : List (List Hit)) (row : ℕ) (found : Option ℕ) → AreAligned old new row found → IsBound (phrase_in old) row found
+none_before old new row None a = λ x le. no_phrase x old (a x le)
+none_before old new row (Some found) a = (a.0, λ x le lt. no_phrase x old (a.2 x le lt))
 
--- they do not
-pub sought_more : (old next : List (List Hit)) (start found : ℕ) → IsAt old next start found → phrase_in old found ≡ false → IsSought old next start (found + 1)
-sought_more old next start found k apart =
-    let from : start ≤ found = k.from in
+pub aligned_bound : (old new : List (List Hit)) (row : ℕ) (found : Option ℕ) → AreAligned old new row found → AreFewer old new → HasBound (phrase_in old) (phrase_in new) (phrase_times old) (phrase_times new) row found
+aligned_bound old new row found a fewer = record {
+  bound = none_before old new row found a;
+  rows_stay = λ x le. ap (nat_lt 0) (aligned_times old new row found a fewer x le);
+  times_stay = aligned_times old new row found a fewer;
+}
+
+-- the rows of the window below this one are marked and counted, those from it on are not, and in them the phrase stands as at first
+pub record IsMarkingPhrase (start row : ℕ) (first now : List (List Hit)) (old times : List ℕ) (marks : ℕ) : Type 0 where
+  pub from : start ≤ row
+  pub stays : (x : ℕ) → row ≤ x → phrase_times now x ≡ phrase_times first x
+  pub len : length times ≡ length old
+  pub rows : (i : ℕ) → i < 64 → start + i < row → bit_at marks i ≡ bit_of (phrase_in first (start + i))
+  pub clear : (i : ℕ) → row ≤ start + i → bit_at marks i ≡ 0
+  pub counted : (i : ℕ) → i < 64 → start + i < row → min (slice_index times i) (2 ^ 32 - 1) ≡ min (slice_index old i + phrase_times first (start + i)) (2 ^ 32 - 1)
+  pub same : (i : ℕ) → row ≤ start + i → slice_index times i ≡ slice_index old i
+
+pub phrase_start : (start : ℕ) (words : List (List Hit)) (times : List ℕ) → IsMarkingPhrase start start words words times times 0
+phrase_start start words times = record {
+  from = omega arith;
+  stays = λ x le. refl;
+  len = refl;
+  rows = λ i lt below. absurd (omega (arith, below));
+  clear = λ i le. bit_at-zero i;
+  counted = λ i lt below. absurd (omega (arith, below));
+  same = λ i le. refl;
+}
+
+-- rows in which the phrase does not stand are passed
+pub phrase_passed : (start row at : ℕ) (first now next : List (List Hit)) (old times : List ℕ) (marks : ℕ) → IsMarkingPhrase start row first now old times marks → row ≤ at
+    → ((x : ℕ) → row ≤ x → x < at → phrase_times now x ≡ 0) → ((x : ℕ) → at ≤ x → phrase_times next x ≡ phrase_times now x) → IsMarkingPhrase start at first next old times marks
+phrase_passed start row at first now next old times marks k up none stays =
+    let from = k.from in
+    let zero_at : (i : ℕ) → row ≤ start + i → start + i < at → phrase_times first (start + i) ≡ 0 = λ i ge lt. sym (k.stays (start + i) ge) ∙ none (start + i) ge lt in
+    record {
+      from = omega (arith, from, up);
+      stays = λ x le. stays x le ∙ k.stays x (omega (arith, up, le));
+      len = k.len;
+      rows = λ i lt below. elim (cases_lt (start + i) row) [
+        | inl before ↦ k.rows i lt before
+        | inr beyond ↦ k.clear i beyond ∙ ap (λ (n : ℕ). bit_of (nat_lt 0 n)) (sym (zero_at i beyond below))
+      ];
+      clear = λ i le. k.clear i (omega (arith, up, le));
+      counted = λ i lt below. elim (cases_lt (start + i) row) [
+        | inl before ↦ k.counted i lt before
+        | inr beyond ↦ let same = k.same i beyond in let none_here = zero_at i beyond below in omega (arith, same, none_here)
+      ];
+      same = λ i le. k.same i (omega (arith, up, le));
+    }
+
+-- the words were aligned at a row
+pub phrase_aligned : (start row found : ℕ) (first now next : List (List Hit)) (old times : List ℕ) (marks : ℕ) → IsMarkingPhrase start row first now old times marks → AreAligned now next row (Some found) → AreFewer now next
+    → IsMarkingPhrase start found first next old times marks
+phrase_aligned start row found first now next old times marks k a fewer =
+    let up = a.0 in
+    phrase_passed start row found first now next old times marks k up (λ x le lt. no_times x now (a.2 x le lt)) (λ x le. aligned_times now next row (Some found) a fewer x (omega (arith, up, le)))
+
+-- how often it stands there
+phrase_here : (start row found count : ℕ) (first now next : List (List Hit)) (old times : List ℕ) (marks : ℕ) → IsMarkingPhrase start found first next old times marks → AreAligned now next row (Some found)
+    → count ≡ times_together (map first_positions next) → count ≡ phrase_times first found
+phrase_here start row found count first now next old times marks k a e = e ∙ ap times_together a.4 ∙ k.stays found (omega arith)
+
+-- it stands there, and was marked and counted
+phrase_marked : (start row found count place : ℕ) (first now next after : List (List Hit)) (old times grown : List ℕ) (marks set : ℕ) → IsMarkingPhrase start row first now old times marks
+    → AreAligned now next row (Some found) → AreFewer now next → count ≡ times_together (map first_positions next) → after ≡ next → 0 < count → place ≡ found - start
+    → SetsBit place marks set → AddsAt place count times grown → IsMarkingPhrase start (found + 1) first after old grown set
+phrase_marked start row found count place first now next after old times grown marks set k a fewer e same some at bit adds =
+    let here = phrase_aligned start row found first now next old times marks k a fewer in
+    let from = here.from in
+    let often : count ≡ phrase_times first found = phrase_here start row found count first now next old times marks here a e in
+    let stands : phrase_in first found ≡ true = ap (nat_lt 0) (sym often) ∙ lt-ltb 0 count some in
     record {
       from = omega (arith, from);
-      moved = later found (found + 1) old next (omega arith) k.moved;
-      between = λ x le lt. up_to old start found x k.between apart le lt;
+      stays = λ x le. ap (λ (ws : List (List Hit)). phrase_times ws x) same ∙ here.stays x (omega (arith, le));
+      len = adds.len ∙ here.len;
+      rows = λ i lt below. elim (cases_eq i place) [
+        | inl it ↦
+            let row : found ≡ start + i = omega (arith, it, at, from) in
+            ap (bit_at set) it ∙ bit.here ∙ ap bit_of (sym (ap (phrase_in first) (sym row) ∙ stands))
+        | inr other ↦ bit.others i other ∙ here.rows i lt (before i below other)
+      ];
+      clear = λ i le. bit.others i (λ f. omega (arith, f, at, from, le)) ∙ here.clear i (omega (arith, le));
+      counted = λ i lt below. elim (cases_eq i place) [
+        | inl it ↦
+            let row : phrase_times first found ≡ phrase_times first (start + i) = ap (phrase_times first) (omega (arith, it, at, from)) in
+            let more : slice_index grown i ≡ min (slice_index times i + count) (2 ^ 32 - 1) = ap (slice_index grown) it ∙ adds.here ∙ ap (λ (j : ℕ). min (slice_index times j + count) (2 ^ 32 - 1)) (sym it) in
+            let was = here.same i (omega (arith, it, at, from)) in
+            omega (arith, row, more, was, often)
+        | inr other ↦ ap (λ (n : ℕ). min n (2 ^ 32 - 1)) (adds.others i other) ∙ here.counted i lt (before i below other)
+      ];
+      same = λ i le. adds.others i (λ f. omega (arith, f, at, from, le)) ∙ here.same i (omega (arith, le));
     }
+  where
+    before : (i : ℕ) → start + i < found + 1 → (i ≡ place → ⊥) → start + i < found
+    before i below other = elim (cases_lt (start + i) found) [
+      | inl lt ↦ lt
+      | inr ge ↦ absurd (other (omega (arith, below, ge, at)))
+    ]
 
--- they do not, and no row that a u32 can tell comes after
-pub sought_last : (old next : List (List Hit)) (before row found : ℕ) → IsAt old next (max row before) found → phrase_in old found ≡ false → 2 ^ 32 ≤ found + 1
-    → FindsRow (from_least before (phrase_in old)) (from_least found (phrase_in next)) row None
-sought_last old next before row found k apart end =
-    let s = sought_more old next (max row before) found k apart in
-    record {
-      first = none_of_least (phrase_in old) before row (found + 1) s.between (λ x le fits. absurd (omega (arith, le, fits, end)));
-      stays = least_rises (phrase_in old) (phrase_in next) before found row k.from k.between (λ x le. same_phrase found x old next k.moved le);
-    }
+-- it does not stand there
+phrase_apart : (start row found count : ℕ) (first now next after : List (List Hit)) (old times : List ℕ) (marks : ℕ) → IsMarkingPhrase start row first now old times marks
+    → AreAligned now next row (Some found) → AreFewer now next → count ≡ times_together (map first_positions next) → after ≡ next → count ≡ 0 → IsMarkingPhrase start (found + 1) first after old times marks
+phrase_apart start row found count first now next after old times marks k a fewer e same none =
+    let here = phrase_aligned start row found first now next old times marks k a fewer in
+    let often : count ≡ phrase_times first found = phrase_here start row found count first now next old times marks here a e in
+    phrase_passed start found (found + 1) first next after old times marks here (omega arith)
+    (λ x le lt. let at : found ≡ x = omega (arith, le, lt) in ap (phrase_times next) (sym at) ∙ here.stays found (omega arith) ∙ sym often ∙ none)
+    (λ x le. ap (λ (ws : List (List Hit)). phrase_times ws x) same)
+
+-- the row was marked and counted where the phrase stands in it
+pub phrase_counted : (start row found count place more : ℕ) (first now next after : List (List Hit)) (old times grown : List ℕ) (marks set : ℕ) → IsMarkingPhrase start row first now old times marks
+    → AreAligned now next row (Some found) → AreFewer now next → count ≡ times_together (map first_positions next) → after ≡ next → place ≡ found - start → MarksRow place count marks set times grown
+    → more ≡ found + 1 → IsMarkingPhrase start more first after old grown set
+phrase_counted start row found count place more first now next after old times grown marks set k a fewer e same at m up =
+    subst (λ (n : ℕ). IsMarkingPhrase start n first after old grown set) (sym up) (elim (cases_lt 0 count) [
+      | inl some ↦ phrase_marked start row found count place first now next after old times grown marks set k a fewer e same some at (m.some some).0 (m.some some).1
+      | inr few ↦
+          let none : count ≡ 0 = omega (arith, few) in
+          subst (λ (n : ℕ). IsMarkingPhrase start (found + 1) first after old grown n) (sym (m.none none).0)
+          (subst (λ (ns : List ℕ). IsMarkingPhrase start (found + 1) first after old ns marks) (sym (m.none none).1) (phrase_apart start row found count first now next after old times marks k a fewer e same none))
+    ])
+
+-- no row of the window is left
+phrase_end : (start row : ℕ) (first now : List (List Hit)) (old times : List ℕ) (marks : ℕ) → IsMarkingPhrase start row first now old times marks
+    → ((i : ℕ) → i < 64 → start + i < 2 ^ 32 → row ≤ start + i → phrase_times first (start + i) ≡ 0) → ((x : ℕ) → start + 64 ≤ x → phrase_times now x ≡ phrase_times first x)
+    → HasMarked (phrase_in first) (phrase_in now) (phrase_times first) (phrase_times now) start marks old times
+phrase_end start row first now old times marks k none stays = record {
+  rows = λ i lt fits. elim (cases_lt (start + i) row) [
+    | inl before ↦ k.rows i lt before
+    | inr beyond ↦ k.clear i beyond ∙ ap (λ (n : ℕ). bit_of (nat_lt 0 n)) (sym (none i lt fits beyond))
+  ];
+  times = record {
+    len = k.len;
+    each = λ i lt fits. elim (cases_lt (start + i) row) [
+      | inl before ↦ k.counted i lt before
+      | inr beyond ↦ let same = k.same i beyond in let zeros = none i lt fits beyond in omega (arith, same, zeros)
+    ];
+  };
+  rows_stay = λ x le. ap (nat_lt 0) (stays x le);
+  times_stay = stays;
+}
 
 -- no row is left that all words have
-pub sought_none : (old now next : List (List Hit)) (before row least : ℕ) → IsSought old now (max row before) least → AreAligned now next least None → AreFewer now next
-    → FindsRow (from_least before (phrase_in old)) (from_least least (phrase_in next)) row None
-sought_none old now next before row least k a fewer =
-    let none = λ (x : ℕ) (le : least ≤ x). no_phrase x old (sym (same_rows least x old now k.moved le) ∙ a x le) in
-    record {
-      first = none_of_least (phrase_in old) before row least k.between (λ x le fits. none x le);
-      stays = least_rises (phrase_in old) (phrase_in next) before least row k.from k.between (λ x le. no_phrase x next (fewer x (a x le)) ∙ sym (none x le));
-    }
+pub phrase_none : (start row : ℕ) (first now next : List (List Hit)) (old times : List ℕ) (marks : ℕ) → IsMarkingPhrase start row first now old times marks → AreAligned now next row None → AreFewer now next
+    → row ≤ start + 64 → HasMarked (phrase_in first) (phrase_in next) (phrase_times first) (phrase_times next) start marks old times
+phrase_none start row first now next old times marks k a fewer near =
+    let all =
+    phrase_passed start row row first now next old times marks k (omega arith) (λ x le lt. absurd (omega (arith, le, lt))) (λ x le. aligned_times now next row None a fewer x le) in
+    phrase_end start row first next old times marks all (λ i lt fits beyond. sym (k.stays (start + i) beyond) ∙ no_times (start + i) now (a (start + i) beyond))
+    (λ x le. aligned_times now next row None a fewer x (omega (arith, le, near)) ∙ k.stays x (omega (arith, le, near)))
+
+-- the next row that all words have is beyond the window
+pub phrase_beyond : (start row found : ℕ) (first now next : List (List Hit)) (old times : List ℕ) (marks : ℕ) → IsMarkingPhrase start row first now old times marks → AreAligned now next row (Some found) → AreFewer now next
+    → start + 64 ≤ found → row ≤ start + 64 → HasMarked (phrase_in first) (phrase_in next) (phrase_times first) (phrase_times next) start marks old times
+phrase_beyond start row found first now next old times marks k a fewer far near =
+    let here = phrase_aligned start row found first now next old times marks k a fewer in
+    phrase_end start found first next old times marks here (λ i lt fits beyond. absurd (omega (arith, lt, beyond, far)))
+    (λ x le. aligned_times now next row (Some found) a fewer x (omega (arith, le, near)) ∙ k.stays x (omega (arith, le, near)))
+
+-- no row that a u32 can tell is left
+pub phrase_last : (start row : ℕ) (first now : List (List Hit)) (old times : List ℕ) (marks : ℕ) → IsMarkingPhrase start row first now old times marks → 2 ^ 32 ≤ row → row ≤ start + 64 → HasMarked (phrase_in first) (phrase_in now) (phrase_times first) (phrase_times now) start marks old times
+phrase_last start row first now old times marks k end near =
+    phrase_end start row first now old times marks k (λ i lt fits beyond. absurd (omega (arith, fits, beyond, end))) (λ x le. k.stays x (omega (arith, le, near)))
 
 -- what aligning keeps
 pub record IsAligning (old now : List (List Hit)) (start least : ℕ) : Type 0 where
@@ -208,27 +299,3 @@ aligned_found old now next start least found k p fewer e =
       ap (all_have old) e ∙ sym (same_rows least least old now k.moved (omega arith)) ∙ here.0,
       subst (λ (n : ℕ). StandAt n next) (sym e) here.1,
     )
-
--- ---- the words of a phrase, moved to a row in which it is counted how often they stand together
-
-pub times_keep : (old new : List (List Hit)) (row : ℕ) (found : Option ℕ) → IsPass old new row found → AreFewer old new → (x : ℕ) → row ≤ x → phrase_times new x ≡ phrase_times old x
-times_keep old new row None p fewer x le = no_times x new (fewer x (p x le)) ∙ sym (no_times x old (p x le))
-times_keep old new row (Some found) p fewer x le = elim (cases_lt x found) [
-  | inl lt ↦ no_times x new (fewer x (p.2 x le lt)) ∙ sym (no_times x old (p.2 x le lt))
-  | inr ge ↦ same_times found x old new p.1 ge
-]
-
--- the row is not one that they all have
-pub times_none : (old new : List (List Hit)) (row : ℕ) → IsPass old new row None → 0 ≡ phrase_times old row
-times_none old new row p = sym (no_times row old (p row (omega arith)))
-
-pub times_other : (old new : List (List Hit)) (row found : ℕ) → IsPass old new row (Some found) → (found ≡ row → ⊥) → 0 ≡ phrase_times old row
-times_other old new row found p other = let from = p.0 in sym (no_times row old (p.2 row (omega arith) (omega (arith, from, other))))
-
-pub times_stand : (old new : List (List Hit)) (row found times : ℕ) → IsPass old new row (Some found) → found ≡ row → times ≡ times_together (map first_positions new) → times ≡ phrase_times old row
-times_stand old new row found times p same e =
-    let here : IsPass old new row (Some row) = subst (λ (n : ℕ). IsPass old new row (Some n)) same p in
-    e ∙ ap times_together (here.3 refl).1 ∙ same_times row row old new here.1 (omega arith)
-
-pub keep_after : (old new after : List (List Hit)) (row found : ℕ) → IsPass old new row (Some found) → AreFewer old new → after ≡ new → (x : ℕ) → row ≤ x → phrase_times after x ≡ phrase_times old x
-keep_after old new after row found p fewer same x le = ap (λ (ws : List (List Hit)). phrase_times ws x) same ∙ times_keep old new row (Some found) p fewer x le

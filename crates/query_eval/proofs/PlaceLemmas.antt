@@ -1,9 +1,9 @@
 -- The words of a phrase, found from documents, stand together in a row as often as the phrase stands in its text.
 use Rattle.std.proofs.Common.{◌≡◌, ℕ, zero, suc, ◌+◌, ◌<◌, ◌≤◌, List, [], ◌∷◌, ◌++◌, length, map, take, drop, Bool, true, false, Some, refl, sym, ap, ◌∙◌, arith}
-use Rattle.std.specs.Prelude.{◌&&◌, nat_eq, nat_le, nat_lt, slice_get, count_by, if◌then◌else◌}
+use Rattle.std.specs.Prelude.{◌&&◌, nat_eq, nat_lt, slice_get, count_by, if◌then◌else◌}
 use Rattle.std.specs.List.{list_any, filter, enumerate_from}
 use Rattle.std.specs.Str.{bytes_eq}
-use Rattle.std.proofs.lemmas.Bool.{ne_eqb, eq-eqb, le-leb, lt-ltb, ltb-false, or_parts, and_left, and_right}
+use Rattle.std.proofs.lemmas.Bool.{ne_eqb, eq-eqb, lt-ltb, ltb-false, or_parts, and_left, and_right}
 use Rattle.std.proofs.lemmas.Cmp.{nat_list_eq_equiv}
 use Rattle.std.proofs.lemmas.List.Sums.{sum_by-cons}
 use Rattle.std.proofs.lemmas.List.{map_push}
@@ -241,9 +241,6 @@ phrase_lacks shown phrase i word same sound is spelt lacks row doc here =
 
 -- ---- all words were found
 
-pub both_pushed : (counted words more pushed : List (List Hit)) (a b : List Hit) → counted ≡ words → a ≡ b → more ≡ counted ++ a ∷ [] → pushed ≡ words ++ b ∷ [] → more ≡ pushed
-both_pushed counted words more pushed a b same one e f = cc
-
 pub whole : (n : ℕ) (xs : List (List ℕ)) → length xs ≤ n → take n xs ≡ xs
 whole zero [] le = refl
 whole zero (x ∷ xs) le = absurd (omega (arith, le))
@@ -257,11 +254,7 @@ times_placed docs hits (p ∷ phrase) so_far placed e some row doc here =
     ap times_together (placed row doc here ∙ ap (map (λ w. positions_of w (words_of doc.text))) e) ∙ phrase_stands p phrase (words_of doc.text)
 
 pub phrase_placed : (docs : List Doc) (hits : List (List Hit)) (phrase so_far : List (List ℕ)) → ArePlaced docs hits so_far → so_far ≡ phrase → 0 < length phrase
-    → (row : ℕ) (doc : Doc) → slice_get docs row ≡ Some doc → (nat_le 0 row && phrase_in hits row) ≡ stands_in phrase (words_of doc.text)
+    → (row : ℕ) (doc : Doc) → slice_get docs row ≡ Some doc → phrase_in hits row ≡ stands_in phrase (words_of doc.text)
 phrase_placed docs hits phrase so_far placed e some row doc here =
-    from_zero row (phrase_in hits row)
-    ∙ ap (nat_lt 0) (times_placed docs hits phrase so_far placed e some row doc here)
+    ap (nat_lt 0) (times_placed docs hits phrase so_far placed e some row doc here)
     ∙ sym (any_counted (stands_at_front phrase) (tails (words_of doc.text)))
-  where
-    from_zero : (row : ℕ) (b : Bool) → (nat_le 0 row && b) ≡ b
-    from_zero row b = rw (le-leb 0 row (omega arith)) refl

@@ -1,8 +1,7 @@
-pub mod Advance
+pub mod Windows
 pub mod Places
-pub mod Hits
+pub mod Rows
 pub mod Phrases
 pub mod Cursor
-pub mod Ranks
 pub mod Best
 pub mod Matching

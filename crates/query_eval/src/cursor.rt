@@ -1,30 +1,28 @@
-//! The rows of a segment that a query asks for.
+//! The rows of a segment that a query asks for, in windows of 64 rows.
 
-ghost use Rattle.std.specs.Prelude.{◌≡◌};
-ghost use Rattle.query_eval.specs.Advance.{FindsRow, both, either, from_least, least_row, rest_of};
-ghost use Rattle.query_eval.specs.Cursor.{answers, parted};
+ghost use Rattle.std.specs.Prelude.{◌≡◌, ◌+◌, ◌<◌, ◌≤◌, ℕ, false, IfSome, IfNone};
+ghost use Rattle.query_eval.specs.Cursor.{answers, rank_in, parted};
+ghost use Rattle.query_eval.specs.Phrases.{phrase_in, phrase_times};
+ghost use Rattle.query_eval.specs.Rows.{has_row_at, times_at};
+ghost use Rattle.query_eval.specs.Windows.{IsMarked, IsWindowStart, StaysFrom, HasBound, HasMarked, both, either, others, sum_of, least_row, greater_row};
 
-use crate::phrase::{PhraseWord, advance_phrase};
-use crate::word::WordHits;
+use crate::phrase::{PhraseWord, align};
+use crate::window::{mark_phrase, mark_word};
+use crate::word::WordRows;
 use std::mem;
 
-/// The rows of a segment that a query asks for, gone through in ascending order. The rows that were passed are below the
-/// last row that was asked for.
+/// The rows of a segment that a query asks for, gone through in ascending order, and how often its words and phrases stand in
+/// them.
 #[derive(Drop)]
 pub enum Cursor<'a> {
     Nothing,
     Every,
     /// The rows that have a word.
-    Word(WordHits<'a>),
-    /// The rows from the least on in which the words stand together.
-    Phrase {
-        least: u32,
-        words: Vec<PhraseWord<'a>>,
-    },
-    /// The rows from the least on that both parts answer. The least rises as the parts move, since they may have passed rows
-    /// below it.
+    Word(WordRows<'a>),
+    /// The rows in which the words stand together.
+    Phrase(Vec<PhraseWord<'a>>),
+    /// The rows that both parts answer.
     Both {
-        least: u32,
         first: Box<Cursor<'a>>,
         second: Box<Cursor<'a>>,
     },
@@ -33,12 +31,8 @@ pub enum Cursor<'a> {
         first: Box<Cursor<'a>>,
         second: Box<Cursor<'a>>,
     },
-    /// The rows from the least on and below `rows` that the part does not answer, or did not before it moved: it has moved to
-    /// `free`, and no row from the least up to there is one that it answered.
+    /// The rows that the part does not answer. What stands in it is not counted.
     Rest {
-        least: u32,
-        free: u32,
-        rows: u32,
         part: Box<Cursor<'a>>,
     },
 }
@@ -56,77 +50,70 @@ fn least_of(a: Option<u32>, b: Option<u32>) -> Option<u32>
     }
 }
 
-// The first row at or above this one, from `least` on, that both answer. The least rises to it.
-#[cycle(moving)]
-fn advance_both(
-    least: &mut u32,
-    first: &mut Cursor<'_>,
-    second: &mut Cursor<'_>,
-    row: u32,
-) -> Option<u32>
-    ensures found { FindsRow (from_least least.old (both (answers first.old) (answers second.old)))
-        (from_least least.new (both (answers first.new) (answers second.new))) row result }
-    ensures same_first { parted first.new ≡ parted first.old }
-    ensures same_second { parted second.new ≡ parted second.old }
+// The greater of two rows, where there are both.
+fn greater_of(a: Option<u32>, b: Option<u32>) -> Option<u32>
+    ensures { result ≡ greater_row a b }
 {
-    *least = row.max(*least);
-    loop {
-        let found = advance(first, *least)?;
-        *least = found;
-        let next = advance(second, found)?;
-        *least = next;
-        if next == found {
-            return Some(found);
-        }
+    match a {
+        Some(a) => match b {
+            Some(b) => Some(a.max(b)),
+            None => None,
+        },
+        None => None,
     }
 }
 
-// The least of the rows at or above this one that either answers.
-#[cycle(moving)]
-fn advance_either(first: &mut Cursor<'_>, second: &mut Cursor<'_>, row: u32) -> Option<u32>
-    ensures found { FindsRow (either (answers first.old) (answers second.old))
-        (either (answers first.new) (answers second.new)) row result }
+// Moves the rows of a word to the first from this one on.
+fn bound_of_word(rows: &mut WordRows<'_>, row: u32) -> Option<u32>
+    ensures { HasBound (has_row_at rows.old) (has_row_at rows.new)
+        (times_at rows.old) (times_at rows.new) row result }
+{
+    rows.next_from(row)
+}
+
+// Moves the words of a phrase to the first row from this one on that all of them have.
+fn bound_of_phrase(words: &mut [PhraseWord<'_>], row: u32) -> Option<u32>
+    ensures { HasBound (phrase_in words.old) (phrase_in words.new)
+        (phrase_times words.old) (phrase_times words.new) row result }
+{
+    align(words, row)
+}
+
+// The bound of the rows that both answer.
+#[cycle(seeking)]
+fn bound_of_both(first: &mut Cursor<'_>, second: &mut Cursor<'_>, row: u32) -> Option<u32>
+    ensures bound { HasBound (both (answers first.old) (answers second.old))
+        (both (answers first.new) (answers second.new))
+        (sum_of (rank_in first.old) (rank_in second.old))
+        (sum_of (rank_in first.new) (rank_in second.new)) row result }
     ensures same_first { parted first.new ≡ parted first.old }
     ensures same_second { parted second.new ≡ parted second.old }
 {
-    let a = advance(first, row);
-    let b = advance(second, row);
+    let a = bound_of(first, row);
+    let b = bound_of(second, row);
+    greater_of(a, b)
+}
+
+// The bound of the rows that either answers.
+#[cycle(seeking)]
+fn bound_of_either(first: &mut Cursor<'_>, second: &mut Cursor<'_>, row: u32) -> Option<u32>
+    ensures bound { HasBound (either (answers first.old) (answers second.old))
+        (either (answers first.new) (answers second.new))
+        (sum_of (rank_in first.old) (rank_in second.old))
+        (sum_of (rank_in first.new) (rank_in second.new)) row result }
+    ensures same_first { parted first.new ≡ parted first.old }
+    ensures same_second { parted second.new ≡ parted second.old }
+{
+    let a = bound_of(first, row);
+    let b = bound_of(second, row);
     least_of(a, b)
 }
 
-// The first row at or above this one, from `least` on and below `rows`, that is below `free` or that the part does not answer.
-// It becomes the least; the row that the part is asked for next becomes `free`.
-#[cycle(moving)]
-fn advance_rest(
-    least: &mut u32,
-    free: &mut u32,
-    rows: u32,
-    part: &mut Cursor<'_>,
-    row: u32,
-) -> Option<u32>
-    ensures found { FindsRow (rest_of least.old free.old rows (answers part.old))
-        (rest_of least.new free.new rows (answers part.new)) row result }
-    ensures same_parts { parted part.new ≡ parted part.old }
-{
-    *least = row.max(*least);
-    while *least < rows {
-        if *least < *free {
-            return Some(*least);
-        }
-        let found = advance(part, *least);
-        if found != Some(*least) {
-            *free = found.unwrap_or(rows);
-            return Some(*least);
-        }
-        *least += 1;
-    }
-    None
-}
-
-/// Advances to the first row at or above this one that is answered, and says which it is.
-#[cycle(moving)]
-pub fn advance(cursor: &mut Cursor<'_>, row: u32) -> Option<u32>
-    ensures found { FindsRow (answers cursor.old) (answers cursor.new) row result }
+// A row from this one on, such that none between is answered. Rows below this one are passed.
+#[cycle(seeking)]
+fn bound_of(cursor: &mut Cursor<'_>, row: u32) -> Option<u32>
+    ensures bound { HasBound (answers cursor.old) (answers cursor.new)
+        (rank_in cursor.old) (rank_in cursor.new) row result }
     ensures same_parts { parted cursor.new ≡ parted cursor.old }
 {
     // The value is taken out and put back, since no proof follows several `&mut` into a variant that holds a reference.
@@ -136,54 +123,154 @@ pub fn advance(cursor: &mut Cursor<'_>, row: u32) -> Option<u32>
             *cursor = Cursor::Every;
             Some(row)
         }
-        Cursor::Word(mut hits) => {
-            let found = hits.next_from(row);
-            *cursor = Cursor::Word(hits);
-            found
+        Cursor::Word(mut rows) => {
+            let bound = bound_of_word(&mut rows, row);
+            *cursor = Cursor::Word(rows);
+            bound
         }
-        Cursor::Phrase {
-            mut least,
-            mut words,
-        } => {
-            let found = advance_phrase(&mut least, words.as_mut_slice(), row);
-            *cursor = Cursor::Phrase { least, words };
-            found
+        Cursor::Phrase(mut words) => {
+            let bound = bound_of_phrase(words.as_mut_slice(), row);
+            *cursor = Cursor::Phrase(words);
+            bound
         }
         Cursor::Both {
-            mut least,
             mut first,
             mut second,
         } => {
-            let found = advance_both(&mut least, &mut first, &mut second, row);
-            *cursor = Cursor::Both {
-                least,
-                first,
-                second,
-            };
-            found
+            let bound = bound_of_both(&mut first, &mut second, row);
+            *cursor = Cursor::Both { first, second };
+            bound
         }
         Cursor::Either {
             mut first,
             mut second,
         } => {
-            let found = advance_either(&mut first, &mut second, row);
+            let bound = bound_of_either(&mut first, &mut second, row);
             *cursor = Cursor::Either { first, second };
-            found
+            bound
         }
-        Cursor::Rest {
-            mut least,
-            mut free,
-            rows,
-            mut part,
-        } => {
-            let found = advance_rest(&mut least, &mut free, rows, &mut part, row);
-            *cursor = Cursor::Rest {
-                least,
-                free,
-                rows,
-                part,
-            };
-            found
+        Cursor::Rest { part } => {
+            *cursor = Cursor::Rest { part };
+            Some(row)
         }
     }
+}
+
+// Marks the rows that both answer.
+#[cycle(marking)]
+fn mark_both(
+    first: &mut Cursor<'_>,
+    second: &mut Cursor<'_>,
+    start: u32,
+    times: &mut [u32; 64],
+) -> u64
+    ensures marks { HasMarked (both (answers first.old) (answers second.old))
+        (both (answers first.new) (answers second.new))
+        (sum_of (rank_in first.old) (rank_in second.old))
+        (sum_of (rank_in first.new) (rank_in second.new)) start result times.old times.new }
+    ensures same_first { parted first.new ≡ parted first.old }
+    ensures same_second { parted second.new ≡ parted second.old }
+{
+    let a = mark(first, start, times);
+    let b = mark(second, start, times);
+    a & b
+}
+
+// Marks the rows that either answers.
+#[cycle(marking)]
+fn mark_either(
+    first: &mut Cursor<'_>,
+    second: &mut Cursor<'_>,
+    start: u32,
+    times: &mut [u32; 64],
+) -> u64
+    ensures marks { HasMarked (either (answers first.old) (answers second.old))
+        (either (answers first.new) (answers second.new))
+        (sum_of (rank_in first.old) (rank_in second.old))
+        (sum_of (rank_in first.new) (rank_in second.new)) start result times.old times.new }
+    ensures same_first { parted first.new ≡ parted first.old }
+    ensures same_second { parted second.new ≡ parted second.old }
+{
+    let a = mark(first, start, times);
+    let b = mark(second, start, times);
+    a | b
+}
+
+// Marks the rows that a part does not answer.
+#[cycle(marking)]
+fn mark_rest(part: &mut Cursor<'_>, start: u32) -> u64
+    ensures marks { IsMarked (others (answers part.old)) start result }
+    ensures rows { StaysFrom (start + 64) (others (answers part.old)) (others (answers part.new)) }
+    ensures same_parts { parted part.new ≡ parted part.old }
+{
+    let mut unused = [0; 64];
+    let marks = mark(part, start, &mut unused);
+    !marks
+}
+
+/// Marks the rows of the window that begins at a row, and passes them. How often words and phrases stand in each is added.
+#[cycle(marking)]
+pub fn mark(cursor: &mut Cursor<'_>, start: u32, times: &mut [u32; 64]) -> u64
+    ensures marks { HasMarked (answers cursor.old) (answers cursor.new)
+        (rank_in cursor.old) (rank_in cursor.new) start result times.old times.new }
+    ensures same_parts { parted cursor.new ≡ parted cursor.old }
+{
+    match mem::replace(cursor, Cursor::Nothing) {
+        Cursor::Nothing => 0,
+        Cursor::Every => {
+            *cursor = Cursor::Every;
+            u64::MAX
+        }
+        Cursor::Word(mut rows) => {
+            let marks = mark_word(&mut rows, start, times);
+            *cursor = Cursor::Word(rows);
+            marks
+        }
+        Cursor::Phrase(mut words) => {
+            let marks = mark_phrase(words.as_mut_slice(), start, times);
+            *cursor = Cursor::Phrase(words);
+            marks
+        }
+        Cursor::Both {
+            mut first,
+            mut second,
+        } => {
+            let marks = mark_both(&mut first, &mut second, start, times);
+            *cursor = Cursor::Both { first, second };
+            marks
+        }
+        Cursor::Either {
+            mut first,
+            mut second,
+        } => {
+            let marks = mark_either(&mut first, &mut second, start, times);
+            *cursor = Cursor::Either { first, second };
+            marks
+        }
+        Cursor::Rest { mut part } => {
+            let marks = mark_rest(&mut part, start);
+            *cursor = Cursor::Rest { part };
+            marks
+        }
+    }
+}
+
+/// The first row from this one on and below `rows` that may be answered. Rows below it are passed.
+pub fn next_start(cursor: &mut Cursor<'_>, row: u32, rows: u32) -> Option<u32>
+    ensures start { IfSome result (IsWindowStart (answers cursor.old) row rows) }
+    ensures none { IfNone result ((x : ℕ) → row ≤ x → x < rows → answers cursor.old x ≡ false) }
+    ensures answers { IfSome result (λ start.
+        StaysFrom start (answers cursor.old) (answers cursor.new)) }
+    ensures ranks { IfSome result (λ start.
+        StaysFrom start (rank_in cursor.old) (rank_in cursor.new)) }
+{
+    let mut least = row;
+    'bounds: while least < rows {
+        let bound = bound_of(cursor, least)?;
+        if bound == least {
+            return Some(least);
+        }
+        least = bound;
+    }
+    None
 }

@@ -5,8 +5,8 @@ mod best;
 mod building;
 mod cursor;
 mod phrase;
-mod rank;
 mod search;
+mod window;
 mod word;
 
 pub use search::answer;

@@ -4,9 +4,8 @@ ghost use Rattle.std.specs.Prelude.{ℕ, ◌≡◌, ◌+◌, ◌<◌, ◌≤◌,
 ghost use Rattle.std.specs.List.{All};
 ghost use Rattle.postings_plain.specs.Postings.{row_of};
 ghost use Rattle.postings_plain.specs.Rows.{from_row, first_row, first_positions, IsLeastFrom};
-ghost use Rattle.query_eval.specs.Advance.{FindsRow, from_least};
 ghost use Rattle.query_eval.specs.Places.{has_place, from_place};
-ghost use Rattle.query_eval.specs.Phrases.{follow as follow_lem, times_together, phrase_in, phrase_times, IsPass, AreAligned, AreFewer};
+ghost use Rattle.query_eval.specs.Phrases.{follow as follow_lem, times_together, IsPass, AreAligned, AreFewer};
 
 use postings_plain::{Positions, Postings};
 use std::marker::Model;
@@ -139,8 +138,8 @@ fn follow(words: &mut [PhraseWord<'_>], place: u64) -> bool
     true
 }
 
-// How often the words stand together in the row where they stand. Each has a reader of its own, which goes through the row once.
-fn count_here(words: &mut [PhraseWord<'_>]) -> u32
+/// How often the words stand together in the row where they stand. Each has a reader of its own, which goes through the row once.
+pub fn count_here(words: &mut [PhraseWord<'_>]) -> u32
     ensures times { result ≡ times_together (map first_positions words.old) }
     ensures same { words.new ≡ words.old }
 {
@@ -168,8 +167,8 @@ fn pass(words: &mut [PhraseWord<'_>], row: u32) -> Option<u32>
     Some(at)
 }
 
-// Moves the words to the first row at or above this one that all of them have.
-fn align(words: &mut [PhraseWord<'_>], row: u32) -> Option<u32>
+/// Moves the words to the first row at or above this one that all of them have.
+pub fn align(words: &mut [PhraseWord<'_>], row: u32) -> Option<u32>
     ensures found { AreAligned words.old words.new row result }
     ensures fewer { AreFewer words.old words.new }
 {
@@ -180,33 +179,5 @@ fn align(words: &mut [PhraseWord<'_>], row: u32) -> Option<u32>
             return Some(found);
         }
         least = found;
-    }
-}
-
-/// Moves the words of a phrase to the first row at or above this one, from `least` on, in which they stand together. The least
-/// rises to it.
-pub fn advance_phrase(least: &mut u32, words: &mut [PhraseWord<'_>], row: u32) -> Option<u32>
-    ensures { FindsRow (from_least least.old (phrase_in words.old))
-        (from_least least.new (phrase_in words.new)) row result }
-{
-    *least = row.max(*least);
-    loop {
-        let found = align(words, *least)?;
-        *least = found;
-        if count_here(words) > 0 {
-            return Some(found);
-        }
-        *least = found.checked_add(1)?;
-    }
-}
-
-/// How often a phrase stands in a row, to which its words are moved.
-pub fn count_phrase(words: &mut [PhraseWord<'_>], row: u32) -> u32
-    ensures times { result ≡ phrase_times words.old row }
-    ensures keeps { (x : ℕ) → row ≤ x → phrase_times words.new x ≡ phrase_times words.old x }
-{
-    match pass(words, row) {
-        Some(found) if found == row => count_here(words),
-        _ => 0,
     }
 }

@@ -1,53 +1,25 @@
 //! The live rows of segments that match, counted with their ranks.
 
-ghost use Rattle.std.specs.Prelude.{◌≡◌, ◌+◌, ◌-◌, ◌<◌, ◌≤◌, ◌^◌, List, length, min, IsTrue, IfOk, OnOk};
+ghost use Rattle.std.specs.Prelude.{◌≡◌, ◌+◌, ◌-◌, ◌<◌, ◌^◌, ℕ, List, length, IsTrue, IfOk, OnOk};
+ghost use Rattle.std.specs.Int.{bit_at};
 ghost use Rattle.std.specs.List.{All};
 ghost use Rattle.nrt_base.specs.declared.doc.Doc.{Doc};
-ghost use Rattle.documents.specs.Matching.{has_form, is_well_formed};
+ghost use Rattle.documents.specs.Matching.{is_well_formed};
 ghost use Rattle.documents.specs.Ranking.{scan_of};
 ghost use Rattle.seg_reader.specs.Shown.{AreLiveDocuments};
 ghost use Rattle.seg_reader.specs.Sound.{IsSound};
 ghost use Rattle.seg_reader.specs.Placing.{IsPlacing};
-ghost use Rattle.query_eval.specs.Advance.{IsFreeRun};
 ghost use Rattle.query_eval.specs.Best.{IsBar};
-ghost use Rattle.query_eval.specs.Cursor.{answers};
-ghost use Rattle.query_eval.specs.Matching.{CountsRow, CountsRun, CountsSegment, rows_of};
-ghost use Rattle.query_eval.specs.Ranks.{rank_in, KeepsRanks};
+ghost use Rattle.query_eval.specs.Matching.{CountsMarked, CountsRow, CountsSegment, rows_of};
+ghost use Rattle.query_eval.specs.Windows.{AreFirstBits};
 
 use crate::best::{Bar, BestHits};
 use crate::building::cursor_of;
-use crate::cursor::{Cursor, advance};
-use crate::rank::Ranker;
+use crate::cursor::{mark, next_start};
 use documents::{Answer, Query};
 use nrt_base::{NoMemory, Word};
 use seg_reader::Segment;
 use std::alloc::Global;
-
-// Counts a row that matches, with its rank, if it is live.
-fn count_row(
-    alloc: Global,
-    seg: &Segment,
-    places: &[u32],
-    row: u32,
-    ranker: &mut Ranker<'_>,
-    bar: &mut Bar,
-    best: &mut BestHits,
-) -> Result<(), NoMemory>
-    requires row { row < length seg.now.docs }
-    requires rows { length places.now ≡ length seg.now.docs }
-    requires order { IsPlacing seg.now.docs places.now }
-    requires bar { IsBar seg.now.docs places.now bar.old best.old.hits }
-    requires room { best.old.total + 1 < 2 ^ 32 }
-    ensures counts { OnOk result
-        (CountsRow seg.now row (min (rank_in ranker.old row) (2 ^ 32 - 1)) best.old best.new) }
-    ensures keeps { KeepsRanks row ranker.old ranker.new }
-    ensures bar { OnOk result (IsBar seg.now.docs places.now bar.new best.new.hits) }
-{
-    if seg.is_live(row) {
-        best.add(alloc, seg, places, bar, row, ranker.rank(row))?;
-    }
-    Ok(())
-}
 
 // Counts a row of this rank, if it is live.
 fn count_ranked(
@@ -96,71 +68,49 @@ fn search_word(
     Ok(())
 }
 
-// Counts the live rows from one on and before another, each with the rank 0.
-fn count_run(
+// The lowest bits, so many of them as far as there are.
+fn first_bits(count: u32) -> u64
+    requires { 0 < count }
+    ensures { AreFirstBits count result }
+{
+    u64::MAX >> (64 - count.min(64))
+}
+
+// Counts the marked rows of a window that are live, each with how often words and phrases stand in it.
+fn count_window(
     alloc: Global,
     seg: &Segment,
     places: &[u32],
-    from: u32,
-    end: u32,
+    start: u32,
+    marks: u64,
+    times: &[u32; 64],
     bar: &mut Bar,
     best: &mut BestHits,
 ) -> Result<(), NoMemory>
-    requires from { from ≤ end }
-    requires end { end ≤ length seg.now.docs }
+    requires few { length seg.now.docs < 2 ^ 32 }
+    requires within { (i : ℕ) → bit_at marks i ≡ 1 → start + i < length seg.now.docs }
     requires rows { length places.now ≡ length seg.now.docs }
     requires order { IsPlacing seg.now.docs places.now }
     requires bar { IsBar seg.now.docs places.now bar.old best.old.hits }
-    requires room { best.old.total + (end - from) < 2 ^ 32 }
-    ensures counts { OnOk result (CountsRun seg.now from (end - from) best.old best.new) }
+    requires room { best.old.total + (length seg.now.docs - start) < 2 ^ 32 }
+    ensures counts { OnOk result (CountsMarked seg.now start marks times.now 64 best.old best.new) }
     ensures bar { OnOk result (IsBar seg.now.docs places.now bar.new best.new.hits) }
 {
-    for row in from..end {
-        count_ranked(alloc, seg, places, row, 0, bar, best)?;
+    let mut place: u32 = 0;
+    'bits: while place < 64 {
+        let left = marks >> place;
+        if left == 0 {
+            return Ok(());
+        }
+        place += left.trailing_zeros();
+        let often = times[place as usize];
+        count_ranked(alloc, seg, places, start + place, often, bar, best)?;
+        place += 1;
     }
     Ok(())
 }
 
-// Moves a cursor to the end of the run of rows, from this one on and below `rows`, that it does not answer.
-fn free_run(cursor: &mut Cursor<'_>, row: u32, rows: u32) -> u32
-    requires { row ≤ rows }
-    ensures { IsFreeRun (answers cursor.old) (answers cursor.new) row rows result }
-{
-    match advance(cursor, row) {
-        Some(found) if found < rows => found,
-        _ => rows,
-    }
-}
-
-// Counts the live rows of a segment whose documents a query does not match, run by run. Their rank is 0.
-fn search_not(
-    alloc: Global,
-    seg: &Segment,
-    part: &Query,
-    best: &mut BestHits,
-) -> Result<(), NoMemory>
-    requires sound { IsSound seg.now }
-    requires form { IsTrue (has_form part.now) }
-    requires room { best.old.total + length seg.now.docs < 2 ^ 32 }
-    ensures { OnOk result (CountsSegment (Query.Not part.now) seg.now best.old best.new) }
-{
-    let mut unused = Ranker::new(alloc);
-    let mut cursor = cursor_of(alloc, seg, part, &mut unused)?;
-    let rows = seg.rows();
-    let places = seg.places();
-    let mut bar = Bar::new();
-    let mut row = 0;
-    loop {
-        let end = free_run(&mut cursor, row, rows);
-        count_run(alloc, seg, places, row, end, &mut bar, best)?;
-        if end == rows {
-            return Ok(());
-        }
-        row = end + 1;
-    }
-}
-
-// Counts the live rows of a segment whose documents match.
+// Counts the live rows of a segment whose documents match, window by window.
 fn search_rows(
     alloc: Global,
     seg: &Segment,
@@ -172,18 +122,19 @@ fn search_rows(
     requires room { best.old.total + length seg.now.docs < 2 ^ 32 }
     ensures { OnOk result (CountsSegment query.now seg.now best.old best.new) }
 {
-    let mut ranker = Ranker::new(alloc);
-    let mut cursor = cursor_of(alloc, seg, query, &mut ranker)?;
+    let mut cursor = cursor_of(alloc, seg, query)?;
     let rows = seg.rows();
     let places = seg.places();
     let mut bar = Bar::new();
     let mut row = 0;
-    while let Some(found) = advance(&mut cursor, row) {
-        if found >= rows {
-            break;
+    'windows: while let Some(start) = next_start(&mut cursor, row, rows) {
+        let mut times = [0; 64];
+        let marks = mark(&mut cursor, start, &mut times) & first_bits(rows - start);
+        count_window(alloc, seg, places, start, marks, &times, &mut bar, best)?;
+        if rows - start <= 64 {
+            return Ok(());
         }
-        count_row(alloc, seg, places, found, &mut ranker, &mut bar, best)?;
-        row = found + 1;
+        row = start + 64;
     }
     Ok(())
 }
@@ -197,7 +148,6 @@ fn search(alloc: Global, seg: &Segment, query: &Query, best: &mut BestHits) -> R
 {
     match query {
         Query::Word(word) => search_word(alloc, seg, word, best),
-        Query::Not(part) => search_not(alloc, seg, part.as_ref(), best),
         _ => search_rows(alloc, seg, query, best),
     }
 }

@@ -1,69 +1,82 @@
-//! The hits of a word, and the row where they stand.
+//! The rows that have a word, taken one by one.
 
-ghost use Rattle.std.specs.Prelude.{◌≡◌, ◌<◌, length, IfOk, IfSome, IfNone};
+ghost use Rattle.std.specs.Prelude.{◌≡◌, ◌+◌, ◌≤◌, IfOk, IfSome, IfNone};
 ghost use Rattle.std.specs.List.{All};
-ghost use Rattle.postings_plain.specs.Postings.{row_of};
-ghost use Rattle.postings_plain.specs.Rows.{from_row, first_row, first_positions, IsLeastFrom};
-ghost use Rattle.query_eval.specs.Hits.{RowsAscend};
+ghost use Rattle.query_eval.specs.Rows.{RowsAscend, rows_of_hits, rows_from, first_row_of, TakesRow};
 
 use nrt_base::NoMemory;
 use postings_plain::Postings;
 use std::alloc::Global;
 use std::marker::Model;
 
-/// The hits of a word that were not passed, seen as these. They are held apart, so that what holds this moves a few bytes, and
-/// the row where they stand is kept, so that it is read once.
+/// The rows that have a word and were not passed, in order, each with how often the word stands in it. The first is read, and
+/// those behind it are held apart, so that what holds this moves a few bytes.
 #[derive(Drop)]
-pub struct WordHits<'a> {
-    hits: Box<Postings<'a>>,
-    // The row of the first hit, where it is known.
-    first: Option<u32>,
+pub struct WordRows<'a> {
+    first: Option<(u32, u32)>,
+    behind: Box<Postings<'a>>,
 }
 
-impl<'a> Model for WordHits<'a> {
+impl<'a> Model for WordRows<'a> {
     ghost use Rattle.std.specs.Prelude.{List};
-    ghost use Rattle.postings_plain.specs.Postings.{Hit};
-    ghost use Rattle.query_eval.specs.Hits.{RowsAscend, IsFirstRow};
+    ghost use Rattle.query_eval.specs.Rows.{WordRow, RowsAscend, with_first};
 
-    ghost Value = { List Hit };
+    ghost Value = { List WordRow };
 
-    ghost view = { λ w. w.hits.value };
+    ghost view = { λ w. with_first w.first w.behind.value };
 
-    ghost invariant = { λ w. RowsAscend w.hits.value × IsFirstRow w.first w.hits.value };
+    ghost invariant = { λ w. RowsAscend (with_first w.first w.behind.value) };
 }
 
-impl<'a> WordHits<'a> {
-    pub fn new(alloc: Global, hits: Postings<'a>) -> Result<WordHits<'a>, NoMemory>
-        requires { RowsAscend hits }
-        ensures { IfOk result (λ word. word ≡ hits.entry) }
+impl<'a> WordRows<'a> {
+    pub fn new(alloc: Global, hits: Postings<'a>) -> Result<WordRows<'a>, NoMemory>
+        requires { RowsAscend (rows_of_hits hits) }
+        ensures { IfOk result (λ rows. rows ≡ rows_of_hits hits.entry) }
     {
-        Ok(WordHits {
-            hits: Box::new(alloc, hits)?,
-            first: None,
-        })
+        let mut behind = Box::new(alloc, hits)?;
+        let first = behind.next_hit();
+        Ok(WordRows { first, behind })
     }
 
-    /// Moves to the first row at or above this one, and says which it is. Where the hits stand there already, none is read.
-    pub fn next_from(&mut self, row: u32) -> Option<u32>
-        ensures left { self.new ≡ from_row row self.old }
-        ensures answer { result ≡ first_row (from_row row self.old) }
-        ensures found { IfSome result (IsLeastFrom row self.old) }
-        ensures none { IfNone result (All (λ h. row_of h < row) self.old) }
+    // Passes the rows below this one.
+    fn move_to(&mut self, row: u32)
+        ensures { self.new ≡ rows_from row self.old }
     {
         match self.first {
-            Some(first) if first >= row => Some(first),
-            _ => {
-                let found = self.hits.next_from(row);
-                self.first = found;
-                found
+            Some((first, _)) if first < row => {
+                self.behind.next_from(row);
+                self.first = self.behind.next_hit();
             }
+            _ => {}
         }
     }
 
-    /// How often the word stands in the row where its hits stand.
-    pub fn times(&self) -> u32
-        ensures { result ≡ length (first_positions self.now) }
+    /// Moves to the first row at or above this one, and says which it is.
+    pub fn next_from(&mut self, row: u32) -> Option<u32>
+        ensures left { self.new ≡ rows_from row self.old }
+        ensures first { result ≡ first_row_of self.new }
+        ensures above { All (λ r. row ≤ r.0) self.new }
+        ensures ascend { RowsAscend self.new }
     {
-        self.hits.positions().left()
+        self.move_to(row);
+        match self.first {
+            Some((first, _)) => Some(first),
+            None => None,
+        }
+    }
+
+    /// Takes the first row out where it is below the end of the 64 rows that begin here, and says how often the word stands in it.
+    pub fn take_within(&mut self, start: u32) -> Option<(u32, u32)>
+        ensures taken { IfSome result (λ row. TakesRow row (start + 64) self.old self.new) }
+        ensures same { IfNone result (self.new ≡ self.old) }
+        ensures none { IfNone result (All (λ row. start + 64 ≤ row.0) self.old) }
+    {
+        match self.first {
+            Some((row, times)) if u64::from(row) < u64::from(start) + 64 => {
+                self.first = self.behind.next_hit();
+                Some((row, times))
+            }
+            _ => None,
+        }
     }
 }

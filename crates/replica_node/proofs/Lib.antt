@@ -14,6 +14,7 @@ mod Committing
 mod Cores
 mod Documents
 mod Ended
+mod Endings
 mod Finished
 mod Finishes
 mod Foreign

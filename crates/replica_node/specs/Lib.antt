@@ -1,5 +1,6 @@
 pub mod Advancing
 pub mod Answers
+pub mod Ending
 pub mod Given
 pub mod Held
 pub mod Jobs

@@ -6,6 +6,8 @@ ghost use Rattle.replica_node.specs.Replica.{IsWholeReplica, AreStanding};
 ghost use Rattle.searcher_switch.specs.Node.{KeepsBytes};
 ghost use Rattle.searcher_switch.specs.Appearing.{AppearsOnly, IsNameInFlight};
 ghost use Rattle.commit_steps.specs.Commits.{ImagesAre, ImagesHave};
+ghost use Rattle.file_deleter.specs.Removals.{directory_of};
+ghost use Rattle.commit_steps.specs.StepCalls.{StepCalls};
 ghost use Rattle.commit_steps.specs.Book.{commit_of, shown_by, book_after, is_last_step, HasBegun};
 ghost use Rattle.replica_node.specs.Sources.{KeepsSource, HoldsOnly};
 
@@ -67,6 +69,9 @@ impl<D: Dir> Replica<D> {
             (D.cells self.old.dir) (D.cells self.new.dir) }
         ensures appears { AppearsOnly (IsNameInFlight self.old.commits.stage)
             (D.cells self.old.dir) (D.cells self.new.dir) }
+        ensures calls { StepCalls self.old.commits.last self.old.files self.new.files
+            (directory_of D.cells D.plans D.faults self.old.dir)
+            (directory_of D.cells D.plans D.faults self.new.dir) result }
         ensures failed { IsErrOf result CommitFault.Failed
             → Rose (D.faults self.old.dir) (D.faults self.new.dir) }
         ensures later { D.faults self.old.dir ≤ D.faults self.new.dir }

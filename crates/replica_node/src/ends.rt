@@ -15,6 +15,7 @@ ghost use Rattle.std.specs.Option.{option_map};
 ghost use Rattle.replica_node.specs.Jobs.{stopped_job, running_point, job_seen};
 ghost use Rattle.replica_node.specs.Answers.{point_answer};
 ghost use Rattle.replica_node.specs.Merges.{copy_at, copies_without, no_copies, copies_seen};
+ghost use Rattle.replica_node.specs.Ending.{GivesFilesBack};
 ghost use Rattle.replica_node.specs.Sources.{HeldReadAs, IsSourced, KeepsSource, HoldsOnly, IsTakenApart};
 ghost use Rattle.replica_node.specs.Replica.{IsWholeReplica, AreStanding};
 
@@ -29,16 +30,8 @@ use nrt_base::{Gen, Version};
 /// Ends the job, if there is one, and gives back what it held, by one release.
 pub fn end_job<D: Dir>(parts: &mut ReplicaParts<D>)
     requires whole { IsWholeReplica D.cells parts.old }
-    ensures whole { IsWholeReplica D.cells parts.new }
-    ensures standing { AreStanding D.cells parts.old → AreStanding D.cells parts.new }
-    ensures sourced { KeepsSource D.cells parts.old parts.new }
-    ensures held { HoldsOnly parts.old parts.new }
     ensures job { parts.new.job ≡ None }
-    ensures fewer { (q : List ℕ) → count_of parts.new.files q ≤ count_of parts.old.files q }
-    ensures stays { KeepsBytes parts.old.files parts.new.files
-        (D.cells parts.old.dir) (D.cells parts.new.dir) }
-    ensures appears { NoneAppears (D.cells parts.old.dir) (D.cells parts.new.dir) }
-    ensures later { D.faults parts.old.dir ≤ D.faults parts.new.dir }
+    ensures back { GivesFilesBack D.cells D.faults parts.old parts.new }
     ensures others { parts.new ≡ record parts.old {
       dir = parts.new.dir;
       files = parts.new.files;
@@ -85,15 +78,8 @@ fn is_stopped(job: &Option<PointJob>) -> bool
 // Ends the job where it is stopped, and gives back what it held. Takes no memory.
 fn end_stopped<D: Dir>(parts: &mut ReplicaParts<D>)
     requires whole { IsWholeReplica D.cells parts.old }
-    ensures whole { IsWholeReplica D.cells parts.new }
-    ensures standing { AreStanding D.cells parts.old → AreStanding D.cells parts.new }
-    ensures sourced { KeepsSource D.cells parts.old parts.new }
     ensures job { parts.new.job ≡ running_point parts.old.job }
-    ensures fewer { (q : List ℕ) → count_of parts.new.files q ≤ count_of parts.old.files q }
-    ensures stays { KeepsBytes parts.old.files parts.new.files
-        (D.cells parts.old.dir) (D.cells parts.new.dir) }
-    ensures appears { NoneAppears (D.cells parts.old.dir) (D.cells parts.new.dir) }
-    ensures later { D.faults parts.old.dir ≤ D.faults parts.new.dir }
+    ensures back { GivesFilesBack D.cells D.faults parts.old parts.new }
     ensures others { parts.new ≡ record parts.old {
       dir = parts.new.dir;
       files = parts.new.files;
@@ -110,18 +96,10 @@ fn end_stopped<D: Dir>(parts: &mut ReplicaParts<D>)
 pub fn end_copy<D: Dir>(parts: &mut ReplicaParts<D>, job: u64)
     requires whole { IsWholeReplica D.cells parts.old }
     requires runs { is_some (copy_at job parts.old.copies.running) ≡ true }
-    ensures whole { IsWholeReplica D.cells parts.new }
-    ensures standing { AreStanding D.cells parts.old → AreStanding D.cells parts.new }
-    ensures sourced { KeepsSource D.cells parts.old parts.new }
-    ensures held { HoldsOnly parts.old parts.new }
     ensures copies { parts.new.copies ≡ record parts.old.copies {
       running = copies_without job parts.old.copies.running;
     } }
-    ensures fewer { (q : List ℕ) → count_of parts.new.files q ≤ count_of parts.old.files q }
-    ensures stays { KeepsBytes parts.old.files parts.new.files
-        (D.cells parts.old.dir) (D.cells parts.new.dir) }
-    ensures appears { NoneAppears (D.cells parts.old.dir) (D.cells parts.new.dir) }
-    ensures later { D.faults parts.old.dir ≤ D.faults parts.new.dir }
+    ensures back { GivesFilesBack D.cells D.faults parts.old parts.new }
     ensures others { parts.new ≡ record parts.old {
       dir = parts.new.dir;
       files = parts.new.files;
@@ -135,16 +113,8 @@ pub fn end_copy<D: Dir>(parts: &mut ReplicaParts<D>, job: u64)
 /// Ends each copy of a merged segment, and gives every pending file back. Takes no memory.
 pub fn end_copies<D: Dir>(parts: &mut ReplicaParts<D>)
     requires { IsWholeReplica D.cells parts.old }
-    ensures whole { IsWholeReplica D.cells parts.new }
-    ensures standing { AreStanding D.cells parts.old → AreStanding D.cells parts.new }
-    ensures sourced { KeepsSource D.cells parts.old parts.new }
-    ensures held { HoldsOnly parts.old parts.new }
     ensures copies { parts.new.copies ≡ no_copies }
-    ensures fewer { (q : List ℕ) → count_of parts.new.files q ≤ count_of parts.old.files q }
-    ensures stays { KeepsBytes parts.old.files parts.new.files
-        (D.cells parts.old.dir) (D.cells parts.new.dir) }
-    ensures appears { NoneAppears (D.cells parts.old.dir) (D.cells parts.new.dir) }
-    ensures later { D.faults parts.old.dir ≤ D.faults parts.new.dir }
+    ensures back { GivesFilesBack D.cells D.faults parts.old parts.new }
     ensures others { parts.new ≡ record parts.old {
       dir = parts.new.dir;
       files = parts.new.files;
@@ -164,20 +134,12 @@ pub fn end_copies<D: Dir>(parts: &mut ReplicaParts<D>)
 fn enter<D: Dir>(parts: &mut ReplicaParts<D>, generation: Gen)
     requires whole { IsWholeReplica D.cells parts.old }
     requires not_below { parts.old.seen.0 ≤ generation.0 }
-    ensures whole { IsWholeReplica D.cells parts.new }
-    ensures standing { AreStanding D.cells parts.old → AreStanding D.cells parts.new }
-    ensures sourced { KeepsSource D.cells parts.old parts.new }
-    ensures held { HoldsOnly parts.old parts.new }
     ensures seen { parts.new.seen ≡ generation }
     ensures copies { parts.new.copies
         ≡ copies_seen parts.old.seen.0 generation.0 parts.old.copies }
     ensures job { parts.new.job ≡ job_seen parts.old.seen.0 generation.0 parts.old.job }
-    ensures fewer { (q : List ℕ) → count_of parts.new.files q ≤ count_of parts.old.files q }
-    ensures stays { KeepsBytes parts.old.files parts.new.files
-        (D.cells parts.old.dir) (D.cells parts.new.dir) }
-    ensures appears { NoneAppears (D.cells parts.old.dir) (D.cells parts.new.dir) }
-    ensures later { D.faults parts.old.dir ≤ D.faults parts.new.dir }
     ensures quiet { nat_lt parts.old.seen.0 generation.0 ≡ false → parts.new ≡ parts.old }
+    ensures back { GivesFilesBack D.cells D.faults parts.old parts.new }
     ensures others { parts.new ≡ record parts.old {
       dir = parts.new.dir;
       files = parts.new.files;

@@ -13,7 +13,7 @@ ghost use Rattle.seg_reader.specs.Stands.{StandsFor};
 ghost use Rattle.searcher_switch.specs.Appearing.{NoneAppears};
 ghost use Rattle.replica_opening.specs.declared.fault.StartFault.{StartFault};
 ghost use Rattle.replica_opening.specs.Known.{IsLasting};
-ghost use Rattle.replica_opening.specs.Opening.{FindsPoint, number_of_last, IsStartRefusal, IsCutOffOr};
+ghost use Rattle.replica_opening.specs.Opening.{FindsPoint, number_of_last, IsStartRefusal, IsStartCutOff, IsCutOffOr, CanOpen};
 ghost use Rattle.replica_opening.specs.Opened.{IsSettledOn, IsHandedBack};
 ghost use Rattle.replica_node.specs.Sources.{IsSourced};
 ghost use Rattle.replica_node.specs.Starting.{IsJustOpened, SearchesJust, HasJustItsFiles};
@@ -88,6 +88,7 @@ impl<D: Dir> Replica<D> {
         ensures refused { IfErr result (IsHandedOut D.cells D.faults dir) }
         ensures exact { (due : StartFault) → IsStartRefusal (reads_of (D.cells dir)) due
             → MatchResult result (λ _. ⊥) (λ r. IsCutOffOr due r.fault) }
+        ensures opens { CanOpen (reads_of (D.cells dir)) → IfErr result (λ r. IsStartCutOff r.fault) }
 
         // No fault is forgotten.
         ensures later { IfOk result (λ p. D.faults dir ≤ D.faults p.dir) }
@@ -191,8 +192,16 @@ impl<D: Dir> Replica<D> {
 }
 
 impl<D: FaultDir> Replica<D> {
+    ghost use Rattle.disk_model.specs.Listed.{AreNamesOf};
     ghost use Rattle.replica_node.specs.Sources.{KeepsSource, HoldsOnly};
     ghost use Rattle.replica_node.specs.Replica.{IsWholeReplica, AreStanding};
+
+    /// The names of its directory are those of the files that read. It changes nothing.
+    pub fn is_named(&self)
+        ensures { AreNamesOf (D.cells self.now.dir) (D.names self.now.dir) }
+    {
+        self.parts.dir.is_named();
+    }
 
     /// The k-th counted call of the directory from now fails once.
     pub fn plan(&mut self, k: u64)

@@ -4,9 +4,9 @@ ghost use Rattle.std.specs.Prelude.{◌≡◌, ◌<◌, ◌≤◌, [], true, is_
 ghost use Rattle.nrt_base.specs.Causes.{Rose};
 ghost use Rattle.nrt_base.specs.declared.numbers.SegNo.{SegNo};
 ghost use Rattle.disk_model.specs.Disk.{Name, reads_of};
-ghost use Rattle.file_deleter.specs.Holdings.{times, count_of};
+ghost use Rattle.file_deleter.specs.Holdings.{times};
 ghost use Rattle.searcher_switch.specs.Node.{KeepsBytes};
-ghost use Rattle.searcher_switch.specs.Appearing.{AppearsOnly, NoneAppears};
+ghost use Rattle.searcher_switch.specs.Appearing.{AppearsOnly};
 ghost use Rattle.copy_state.specs.States.{meta_names};
 ghost use Rattle.copy_job.specs.Parts.{placed_to};
 ghost use Rattle.copy_job.specs.Placing.{IsPlacingFault};
@@ -14,6 +14,7 @@ ghost use Rattle.copy_job.specs.Jobs.{reads_under};
 ghost use Rattle.replica_node.specs.Merges.{copy_at};
 ghost use Rattle.replica_node.specs.Sources.{KeepsSource, HoldsOnlyWanted};
 ghost use Rattle.replica_node.specs.Replica.{IsWholeReplica, AreStanding};
+ghost use Rattle.replica_node.specs.Ending.{GivesFilesBack};
 ghost use Rattle.replica_node.specs.Settling.{PlacesCopy, SettlesCopy, EndsCopy, StillCopies};
 
 use crate::ends::end_copy;
@@ -150,17 +151,10 @@ fn give_up<D: Dir>(parts: &mut ReplicaParts<D>, job: u64, fault: JobFault) -> Jo
     requires whole { IsWholeReplica D.cells parts.old }
     requires runs { is_some (copy_at job parts.old.copies.running) ≡ true }
     requires fault { IsPlacingFault fault }
-    ensures whole { IsWholeReplica D.cells parts.new }
-    ensures standing { AreStanding D.cells parts.old → AreStanding D.cells parts.new }
-    ensures sourced { KeepsSource D.cells parts.old parts.new }
     ensures same { result ≡ fault }
     ensures failed { fault ≡ JobFault.DirFailed → EndsCopy job parts.old parts.new }
     ensures memory { fault ≡ JobFault.Memory → parts.new ≡ parts.old }
-    ensures fewer { (q : Name) → count_of parts.new.files q ≤ count_of parts.old.files q }
-    ensures stays { KeepsBytes parts.old.files parts.new.files
-        (D.cells parts.old.dir) (D.cells parts.new.dir) }
-    ensures appears { NoneAppears (D.cells parts.old.dir) (D.cells parts.new.dir) }
-    ensures later { D.faults parts.old.dir ≤ D.faults parts.new.dir }
+    ensures back { GivesFilesBack D.cells D.faults parts.old parts.new }
     ensures others { parts.new ≡ record parts.old {
       dir = parts.new.dir;
       files = parts.new.files;

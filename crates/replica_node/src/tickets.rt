@@ -42,6 +42,13 @@ impl<D: Dir> Replica<D> {
             .acquire(alloc, &mut self.parts.files, &self.parts.dir)
     }
 
+    /// The segments of the point that is searched.
+    pub fn readers(&self) -> &[Segment]
+        ensures { result.now ≡ self.now.searchers.point.readers }
+    {
+        self.parts.searchers.point.readers.as_slice()
+    }
+
     /// What a search under a ticket reads.
     pub fn lease(&self, alloc: Global, ticket: &Ticket) -> Result<Lease<Segment>, NoMemory>
         requires { is_some (ticket_at ticket.now.number self.now.searchers.tickets) ≡ true }

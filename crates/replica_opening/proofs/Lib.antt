@@ -1,6 +1,7 @@
 pub mod Clearings
 pub mod Metas
 pub mod Openings
+pub mod Opens
 mod Placed
 mod Recoveries
 mod Releasing

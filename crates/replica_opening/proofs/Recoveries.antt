@@ -9,8 +9,8 @@ use Rattle.commit_steps.specs.declared.recovery.RecoverFault.TheVariants.{Memory
 use Rattle.commit_steps.specs.Recovery.{Recovers, SaysHowBroken, IsAnswered, IsRecoverAnswer}
 use Rattle.replica_opening.specs.declared.fault.StartFault.{StartFault}
 use Rattle.replica_opening.specs.declared.fault.StartFault.TheVariants.{Memory, Recover, Segment, Failed}
-use Rattle.replica_opening.specs.Readers.{IsFirstRefusedSegment}
-use Rattle.replica_opening.specs.Opening.{IsDiskFault, IsStartRefusal, IsStartCutOff, IsCutOffOr, IsStartFaultOf, IsOfFirstRefused, IsRecovered, IsRecoveredBefore, start_fault_of}
+use Rattle.replica_opening.specs.Readers.{AreReaders, IsFirstRefusedSegment}
+use Rattle.replica_opening.specs.Opening.{IsDiskFault, IsStartRefusal, IsStartCutOff, IsCutOffOr, IsStartFaultOf, IsOfFirstRefused, IsRecovered, IsRecoveredBefore, CanOpen, RecoversOpen, start_fault_of}
 
 abbrev Recovery : Type 0
 Recovery = Result (Option (ℕ × Infos)) RecoverFault
@@ -66,6 +66,12 @@ module _ (image : Image) where
   refused_by e due (inr (inl h)) = inl (subst (λ (f : RecoverFault). IsStartCutOff (start_fault_of f)) (sym (same_fault e RecoverFailed h)) tt)
   refused_by e due (inr (inr h)) = inr (ap start_fault_of (same_fault e due h))
 
+  -- where a commit or nothing was due, the recovery was cut off
+  cut_by : (e : RecoverFault) (found : Option (ℕ × Infos)) → IsAnswered {X = Option (ℕ × Infos)} (Err e) (Ok found) → IsStartCutOff (start_fault_of e)
+  cut_by e found (inl k) = subst (λ (f : RecoverFault). IsStartCutOff (start_fault_of f)) (sym (same_fault e RecoverMemory k)) tt
+  cut_by e found (inr (inl k)) = subst (λ (f : RecoverFault). IsStartCutOff (start_fault_of f)) (sym (same_fault e RecoverFailed k)) tt
+  cut_by e found (inr (inr k)) = err_not_found found e k
+
   pub refused_before : (e : RecoverFault) (due : StartFault) → IsRecoverAnswer image (Err e) → IsStartRefusal image due → IsCutOffOr due (start_fault_of e)
   refused_before e (Recover (Broken name fault)) r h = refused_by e (Broken name fault) (r.broken name fault h)
   refused_before e (Recover (Gone name)) r h = refused_by e (Gone name) (r.gone name h)
@@ -73,12 +79,27 @@ module _ (image : Image) where
   refused_before e (Recover RecoverFailed) r h = absurd h
   refused_before e Memory r h = absurd h
   refused_before e Failed r h = absurd h
-  refused_before e (Segment seg fault) r h = by (r.whole h.number h.infos h.whole)
+  refused_before e (Segment seg fault) r h = inl (cut_by e (Some (h.number, h.infos)) (r.whole h.number h.infos h.whole))
+
+  -- a directory that opens is not refused
+  pub refused_open : (e : RecoverFault) → IsRecoverAnswer image (Err e) → CanOpen image → IsStartCutOff (start_fault_of e)
+  refused_open e r (inl nothing) = cut_by e None (r.none nothing)
+  refused_open e r (inr opens) = cut_by e (Some (opens.number, opens.infos)) (r.whole opens.number opens.infos opens.whole)
+
+  pub recovered_open : (found : Option (ℕ × Infos)) → IsRecoverAnswer image (Ok found) → CanOpen image → RecoversOpen image (Ok found)
+  recovered_open None r opens = tt
+  recovered_open (Some x) r (inl nothing) = by (r.none nothing)
     where
-      by : IsAnswered {X = Option (ℕ × Infos)} (Err e) (Ok (Some (h.number, h.infos))) → IsCutOffOr (Segment seg fault) (start_fault_of e)
-      by (inl k) = inl (subst (λ (f : RecoverFault). IsStartCutOff (start_fault_of f)) (sym (same_fault e RecoverMemory k)) tt)
-      by (inr (inl k)) = inl (subst (λ (f : RecoverFault). IsStartCutOff (start_fault_of f)) (sym (same_fault e RecoverFailed k)) tt)
-      by (inr (inr k)) = err_not_found (Some (h.number, h.infos)) e k
+      by : IsAnswered {X = Option (ℕ × Infos)} (Ok (Some x)) (Ok None) → RecoversOpen image (Ok (Some x))
+      by (inl e) = some_not_err (Some x) RecoverMemory e
+      by (inr (inl e)) = some_not_err (Some x) RecoverFailed e
+      by (inr (inr e)) = none_not_some x (sym e)
+  recovered_open (Some x) r (inr opens) = by (r.whole opens.number opens.infos opens.whole)
+    where
+      by : IsAnswered {X = Option (ℕ × Infos)} (Ok (Some x)) (Ok (Some (opens.number, opens.infos))) → RecoversOpen image (Ok (Some x))
+      by (inl e) = some_not_err (Some x) RecoverMemory e
+      by (inr (inl e)) = some_not_err (Some x) RecoverFailed e
+      by (inr (inr e)) = (opens.segs, subst (λ (y : ℕ × Infos). AreReaders image y.1.segs opens.segs) (sym (same_found x (opens.number, opens.infos) e)) opens.read)
 
   pub recover_fault : (e : RecoverFault) → SaysHowBroken image e → IsStartFaultOf image (start_fault_of e)
   recover_fault RecoverMemory h = inl tt

@@ -212,6 +212,13 @@ refused_among a b records i d given same lt behind shown refused r fault h = by 
     by (inr here) = subst (λ (x : SegRecord). IsCutOffOr (Segment x.seg fault) given) here
         (refused fault (subst (λ (x : SegRecord). IsRefusedIn (reads_of b) x fault) (sym here) (subst (λ (k : Cells). IsRefusedIn (reads_of k) r fault) (sym same) h.refused)))
 
+-- where each segment reads, the reading was cut off
+pub cut_off_among : (a b : Cells) (records : List SegRecord) (i : ℕ) (d : SegRecord) (given : StartFault) → b ≡ a → i < length records
+    → ((shown : Shown) → IsSegmentIn (reads_of b) (get_or records i d) shown → IsStartCutOff given) → (segs : List Shown) → AreReaders (reads_of a) records segs → IsStartCutOff given
+cut_off_among a b records i d given same lt shown segs read =
+    let some = stands_next a b records segs i d same read lt in
+    shown some.0 some.1
+
 -- where all were read, none is refused
 pub none_refused : (reads : Name → Content) (records : List SegRecord) (i : ℕ) → length records ≤ i → ((r : SegRecord) (fault : SegFault) (h : IsFirstRefusedSegment reads records r fault) → i ≤ length h.front)
     → (r : SegRecord) (fault : SegFault) → IsFirstRefusedSegment reads records r fault → ⊥

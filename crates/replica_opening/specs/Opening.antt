@@ -14,7 +14,7 @@ use Rattle.commit_steps.specs.Found.{ShowsNothing, ShowsCommit}
 use Rattle.commit_steps.specs.Recovery.{IsWholeCommit, IsBrokenCommit, IsGone}
 use Rattle.replica_opening.specs.declared.fault.StartFault.{StartFault}
 use Rattle.replica_opening.specs.declared.fault.StartFault.TheVariants.{Memory, Recover, Segment, Failed}
-use Rattle.replica_opening.specs.Readers.{IsRefusedIn, IsFirstRefusedSegment}
+use Rattle.replica_opening.specs.Readers.{AreReaders, IsRefusedIn, IsFirstRefusedSegment}
 
 -- ---- points
 -- the point at which a node stands that finds no commit
@@ -71,6 +71,24 @@ IsCutOffOr due given = IsStartCutOff given ⊎ (given ≡ due)
 -- an opening is refused as the directory is, unless it is cut off
 abbrev pub IsStartFaultOf : Image → StartFault → Type 0
 IsStartFaultOf image given = IsStartCutOff given ⊎ IsStartRefusal image given
+
+-- a whole commit is shown, and each of its segments reads
+pub record OpensCommit (image : Image) : Type 0 where
+  pub number : ℕ
+  pub infos : Infos
+  pub whole : IsWholeCommit image number infos
+  pub segs : List Shown
+  pub read : AreReaders image infos.segs segs
+
+-- the directory opens: it shows nothing, or a whole commit of which each segment reads
+abbrev pub CanOpen : Image → Type 0
+CanOpen image = ShowsNothing image ⊎ OpensCommit image
+
+-- what a recovery answers of a directory that opens: it is cut off, or each segment of the commit that it answers reads
+abbrev pub RecoversOpen : Image → Result (Option (ℕ × Infos)) StartFault → Type 0
+RecoversOpen image (Ok None) = Unit {0}
+RecoversOpen image (Ok (Some x)) = (segs : List Shown) × AreReaders image x.1.segs segs
+RecoversOpen image (Err fault) = IsStartCutOff fault
 
 -- ---- steps
 -- one segment more was read

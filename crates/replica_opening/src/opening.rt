@@ -18,7 +18,7 @@ ghost use Rattle.searcher_switch.specs.Node.{IsWholeNode};
 ghost use Rattle.searcher_switch.specs.Searching.{searcher_names};
 ghost use Rattle.replica_opening.specs.declared.fault.StartFault.{StartFault};
 ghost use Rattle.replica_opening.specs.Readers.{AreReaders, IsRefusedIn, IsFirstRefusedSegment};
-ghost use Rattle.replica_opening.specs.Opening.{IsReadNext, IsRefusedNext, IsRefusedAmong, IsOfFirstRefused, IsRecovered, IsRecoveredBefore, start_fault_of, opening_infos, FindsPoint, number_of_last, IsDiskFault, IsStartCutOff, IsStartRefusal, IsCutOffOr, IsStartFaultOf};
+ghost use Rattle.replica_opening.specs.Opening.{IsReadNext, IsRefusedNext, IsRefusedAmong, IsOfFirstRefused, IsRecovered, IsRecoveredBefore, CanOpen, RecoversOpen, start_fault_of, opening_infos, FindsPoint, number_of_last, IsDiskFault, IsStartCutOff, IsStartRefusal, IsCutOffOr, IsStartFaultOf};
 ghost use Rattle.replica_opening.specs.Known.{KnowsFiles, LearnsFiles};
 ghost use Rattle.replica_opening.specs.Opened.{IsOpeningPoint, IsFoundPoint, IsSettledOn, IsNodeOpened, IsCounted, IsTaken, IsHandedBack};
 
@@ -122,6 +122,8 @@ fn read_all<D: Dir>(
     ensures refused { (r : SegRecord) (fault : SegFault)
         → IsFirstRefusedSegment (reads_of (D.cells dir.old)) records.now r fault
         → MatchResult result (λ _. ⊥) (IsCutOffOr (StartFault.Segment r.seg fault)) }
+    ensures opens { (segs : List Shown)
+        → AreReaders (reads_of (D.cells dir.old)) records.now segs → IfErr result IsStartCutOff }
     ensures cells { D.cells dir.new ≡ D.cells dir.old }
     ensures failed { IsErrOf result StartFault.Failed → Rose (D.faults dir.old) (D.faults dir.new) }
     ensures later { D.faults dir.old ≤ D.faults dir.new }
@@ -171,6 +173,8 @@ fn committed_point<D: Dir>(
     ensures refused { (r : SegRecord) (fault : SegFault)
         → IsFirstRefusedSegment (reads_of (D.cells dir.old)) infos.segs r fault
         → MatchResult result (λ _. ⊥) (IsCutOffOr (StartFault.Segment r.seg fault)) }
+    ensures opens { (segs : List Shown)
+        → AreReaders (reads_of (D.cells dir.old)) infos.segs segs → IfErr result IsStartCutOff }
     ensures cells { D.cells dir.new ≡ D.cells dir.old }
     ensures failed { IsErrOf result StartFault.Failed → Rose (D.faults dir.old) (D.faults dir.new) }
     ensures later { D.faults dir.old ≤ D.faults dir.new }
@@ -206,6 +210,8 @@ fn recovered<D: Dir>(alloc: Global, dir: &mut D) -> Result<Option<(u64, Infos)>,
     ensures err { IfErr result (IsStartFaultOf (reads_of (D.cells dir.old))) }
     ensures refused { (due : StartFault) → IsStartRefusal (reads_of (D.cells dir.old)) due
         → IsRecoveredBefore (reads_of (D.cells dir.old)) due result }
+    ensures opens { CanOpen (reads_of (D.cells dir.old))
+        → RecoversOpen (reads_of (D.cells dir.old)) result }
     ensures cells { D.cells dir.new ≡ D.cells dir.old }
     ensures failed { IfErr result (λ fault.
         IsDiskFault fault → Rose (D.faults dir.old) (D.faults dir.new)) }
@@ -223,6 +229,7 @@ fn found_point<D: Dir>(alloc: Global, dir: &mut D) -> Result<Found, StartFault>
     ensures err { IfErr result (IsStartFaultOf (reads_of (D.cells dir.old))) }
     ensures refused { (due : StartFault) → IsStartRefusal (reads_of (D.cells dir.old)) due
         → MatchResult result (λ _. ⊥) (IsCutOffOr due) }
+    ensures opens { CanOpen (reads_of (D.cells dir.old)) → IfErr result IsStartCutOff }
     ensures cells { D.cells dir.new ≡ D.cells dir.old }
     ensures failed { IfErr result (λ fault.
         IsDiskFault fault → Rose (D.faults dir.old) (D.faults dir.new)) }
@@ -388,6 +395,7 @@ pub fn open<D: Dir>(alloc: Global, dir: &mut D) -> Result<Opened, StartFault>
     ensures fault { IfErr result (IsStartFaultOf (reads_of (D.cells dir.old))) }
     ensures refused { (due : StartFault) → IsStartRefusal (reads_of (D.cells dir.old)) due
         → MatchResult result (λ _. ⊥) (IsCutOffOr due) }
+    ensures opens { CanOpen (reads_of (D.cells dir.old)) → IfErr result IsStartCutOff }
 
     // What the directory shows stays, whatever is answered.
     ensures kept { IsHandedBack (D.cells dir.old) (D.cells dir.new) }

@@ -6,7 +6,7 @@ use Rattle.std.proofs.lemmas.Bool.{false≢true, and_parts, ltb-true}
 use Rattle.text_query.specs.declared.fault.QueryFault.{QueryFault}
 use Rattle.text_query.specs.Answers.{IsFault}
 use Rattle.script_text.specs.declared.fault.LineFault.{LineFault}
-use Rattle.script_text.specs.declared.fault.LineFault.TheVariants.{NoNodes, Word, Count, Range, Query as RefusedQuery, Text, NotBuilt}
+use Rattle.script_text.specs.declared.fault.LineFault.TheVariants.{NoNodes, Word, Count, Range, Query as RefusedQuery, Text}
 use Rattle.script_text.specs.declared.counted.Counted.{Counted}
 use Rattle.script_text.specs.Grammar.{Statement, words_in, rest_behind, most_statements, is_promotion, AreAllowed}
 use Rattle.script_text.specs.Refused.{Place, later, Form, no_nodes, join, lane_line, no_form, form_of, form_at, is_digits, has_wrong_word, has_wrong_count, is_in_range, has_query, has_log, has_room, counted_with, CauseHolds, order_of, IsFirstCause, IsRight, is_printable}
@@ -26,7 +26,6 @@ no_earlier place before statement k printable nodes word count range query Word 
 no_earlier place before statement k printable nodes word count range query Count h c = false≢true (sym (count h) ∙ c)
 no_earlier place before statement k printable nodes word count range query Range h c = false≢true (sym c ∙ range h)
 no_earlier place before statement k printable nodes word count range query (RefusedQuery fault) h c = query h fault c.0 c.1
-no_earlier place before statement k printable nodes word count range query NotBuilt h c = c
 
 -- a byte that is not printable is the first cause
 pub text_first : (place : Place) (before : Counted) (statement : Statement) → is_printable statement.line ≡ false → IsFirstCause place before statement Text
@@ -106,7 +105,6 @@ module _ (place : Place) (before : Counted) (statement : Statement) (form : Form
       below Count = omega arith
       below Range = omega arith
       below (RefusedQuery fault) = omega arith
-      below NotBuilt = omega arith
 
 -- a statement that has room is none too many
 room_left : (log : Bool) (before : Counted) (statement : Statement) → has_room log before (words_in statement.line) ≡ true → AreAllowed log before.statements before.promotions

@@ -18,7 +18,7 @@ use Rattle.history_rules.specs.declared.cause.FaultKind.TheVariants as kind
 use Rattle.history_rules.specs.declared.cause.FaultPlan.TheVariants as plan
 use Rattle.documents.specs.Matching.{is_well_formed}
 use Rattle.documents.specs.Words.{is_alphanumeric}
-use Rattle.script_text.specs.declared.fault.LineFault.TheVariants.{NoNodes, Word, Count, Range, Query as RefusedQuery, Text, NotBuilt}
+use Rattle.script_text.specs.declared.fault.LineFault.TheVariants.{NoNodes, Word, Count, Range, Query as RefusedQuery, Text}
 use Rattle.script_text.specs.declared.fault.Refusal.{Refusal}
 use Rattle.script_text.specs.declared.fault.Refusal.TheVariants as refusal
 use Rattle.script_serving.specs.declared.script.Force.{Force}
@@ -317,7 +317,6 @@ search_read size few line (word ∷ words) (Err (refusal.Cause NoNodes)) counted
 search_read size few line (word ∷ words) (Err (refusal.Cause Word)) counted h = h
 search_read size few line (word ∷ words) (Err (refusal.Cause Count)) counted h = h
 search_read size few line (word ∷ words) (Err (refusal.Cause Text)) counted h = h
-search_read size few line (word ∷ words) (Err (refusal.Cause NotBuilt)) counted h = h
 
 -- what is read of a search at a ticket
 pub ask_read : (size : ℕ) (line : List ℕ) (words : List (List ℕ)) (read : Result LineCommand Refusal)
@@ -341,7 +340,6 @@ ask_read size line (word ∷ words) (Err (refusal.Cause NoNodes)) counted h = h
 ask_read size line (word ∷ words) (Err (refusal.Cause Word)) counted h = h
 ask_read size line (word ∷ words) (Err (refusal.Cause Count)) counted h = h
 ask_read size line (word ∷ words) (Err (refusal.Cause Text)) counted h = h
-ask_read size line (word ∷ words) (Err (refusal.Cause NotBuilt)) counted h = h
 
 length_of_key : (word : List ℕ) → is_key word ≡ true → nat_le (length word) 64 ≡ true
 length_of_key word e = (and_parts (nat_le 1 (length word)) (nat_le (length word) 64) (and_parts (is_between 1 64 (length word)) (list_all is_key_byte word) e).0).1

@@ -9,7 +9,7 @@ use Rattle.nrt_base.specs.Bytes.{is_between}
 use Rattle.nrt_base.specs.declared.numbers.LineNo.{LineNo}
 use Rattle.nrt_base.proofs.Plain.{between_high}
 use Rattle.script_text.specs.declared.fault.LineFault.{LineFault}
-use Rattle.script_text.specs.declared.fault.LineFault.TheVariants.{NoNodes, Word, Count, Range, Query as RefusedQuery, Text, NotBuilt}
+use Rattle.script_text.specs.declared.fault.LineFault.TheVariants.{NoNodes, Word, Count, Range, Query as RefusedQuery, Text}
 use Rattle.script_text.specs.declared.fault.ScriptFault.{ScriptFault}
 use Rattle.script_text.specs.declared.fault.ScriptFault.TheVariants as script_fault
 use Rattle.script_text.specs.declared.counted.Counted.{Counted}
@@ -63,7 +63,6 @@ same_cause place place' before statement Range e f h =
     ap (λ (b : Bool). is_in_range (form_at place' statement) statement.line && has_room b before (words_in statement.line)) (sym f)
     ∙ (ap (λ (form : Form). is_in_range form statement.line && has_room (has_log place) before (words_in statement.line)) (sym e) ∙ h)
 same_cause place place' before statement (RefusedQuery fault) e f h = (ap has_query (sym e) ∙ h.0, h.1)
-same_cause place place' before statement NotBuilt e f h = h
 
 -- the first of these statements, if there is one, is the same at two places
 abbrev AreAlike : Place → Place → List Statement → Type 0

@@ -10,7 +10,7 @@ use Rattle.text_query.specs.declared.fault.QueryFault.TheVariants.{Memory, Empty
 use Rattle.text_query.specs.Answers.{IsFault, IsQueryAnswer}
 use Rattle.text_query.proofs.FaultLemmas.{same_fault}
 use Rattle.script_text.specs.declared.fault.LineFault.{LineFault}
-use Rattle.script_text.specs.declared.fault.LineFault.TheVariants.{NoNodes, Word, Count, Range, Query as RefusedQuery, Text, NotBuilt}
+use Rattle.script_text.specs.declared.fault.LineFault.TheVariants.{NoNodes, Word, Count, Range, Query as RefusedQuery, Text}
 use Rattle.script_text.specs.declared.counted.Counted.{Counted}
 use Rattle.script_serving.specs.declared.script.Line.{Line}
 use Rattle.script_serving.specs.declared.script.Script.{Script}
@@ -159,7 +159,6 @@ module _ (place : Place) (before : Counted) (statement : Statement) where
   same_order Count Count e h k = refl
   same_order Range Range e h k = refl
   same_order (RefusedQuery fault) (RefusedQuery other) e h k = ap RefusedQuery (same_fault (rest_behind 3 statement.line) fault other h.1 k.1)
-  same_order NotBuilt NotBuilt e h k = refl
   same_order cause other e h k = absurd (omega arith)
 
   one_cause : (cause other : LineFault) → IsFirstCause place before statement cause → IsFirstCause place before statement other → cause ≡ other

@@ -8,7 +8,7 @@ use Rattle.nrt_base.specs.Bytes.{is_between}
 use Rattle.documents.specs.declared.query.Query.{Query}
 use Rattle.text_query.specs.Answers.{Parses}
 use Rattle.text_query.proofs.FaultLemmas.{parses_no_fault}
-use Rattle.script_text.specs.declared.fault.LineFault.TheVariants.{NoNodes, Word, Count, Range, Query as RefusedQuery, Text, NotBuilt}
+use Rattle.script_text.specs.declared.fault.LineFault.TheVariants.{NoNodes, Word, Count, Range, Query as RefusedQuery, Text}
 use Rattle.script_text.specs.Grammar.{Statement, words_in, rest_behind, IsNodesHeader, IsWorkersHeader, IsLogHeader, IsJoin, is_promotion}
 use Rattle.script_text.specs.declared.counted.Counted.{Counted}
 use Rattle.script_text.specs.Reading.{headers_counted}
@@ -45,7 +45,6 @@ right_by_form place before statement form e right printable room Range h =
 right_by_form place before statement form e right printable room (RefusedQuery fault) h =
     let searched = right.searched (sym (ap has_query e) ∙ h.0) in
     parses_no_fault (rest_behind 3 statement.line) searched.query fault searched.parses h.1
-right_by_form place before statement form e right printable room NotBuilt h = h
 
 -- the words behind a lane ask for a command, with the words that it is to have and what is to follow
 pub record AreRight (size : ℕ) (words : List (List ℕ)) (rest : List ℕ) : Type 0 where

@@ -4,7 +4,7 @@ use Rattle.std.specs.List.{list_all}
 use Rattle.nrt_base.specs.Bytes.{is_between, is_text_byte}
 use Rattle.text_query.specs.Answers.{IsFault}
 use Rattle.script_text.specs.declared.fault.LineFault.{LineFault}
-use Rattle.script_text.specs.declared.fault.LineFault.TheVariants.{NoNodes, Word, Count, Range, Query as RefusedQuery, Text, NotBuilt}
+use Rattle.script_text.specs.declared.fault.LineFault.TheVariants.{NoNodes, Word, Count, Range, Query as RefusedQuery, Text}
 use Rattle.history_rules.specs.declared.cause.FaultKind.{FaultKind}
 use Rattle.history_rules.specs.declared.cause.FaultKind.TheVariants as kind
 use Rattle.script_text.specs.declared.shapes.Plain.{Plain}
@@ -297,7 +297,6 @@ CauseHolds place before statement Range =
     (is_in_range (form_at place statement) statement.line && has_room (has_log place) before (words_in statement.line)) ≡ false
 CauseHolds place before statement (RefusedQuery fault) =
     (has_query (form_at place statement) ≡ true) × IsFault (rest_behind 3 statement.line) fault
-CauseHolds place before statement NotBuilt = ⊥
 
 -- the order in which causes are looked for
 abbrev pub order_of : LineFault → ℕ
@@ -307,7 +306,6 @@ order_of Word = 3
 order_of Count = 4
 order_of Range = 5
 order_of (RefusedQuery fault) = 6
-order_of NotBuilt = 7
 
 -- the cause holds of the statement, and none before it does
 pub record IsFirstCause (place : Place) (before : Counted) (statement : Statement) (cause : LineFault) : Type 0 where

@@ -30,9 +30,6 @@ pub enum LineFault {
     /// A byte of the line is no printable one.
     #[error("a byte is not printable: ASCII from the space to `~` is wanted")]
     Text,
-    /// The program does not run this line yet.
-    #[error("the program does not run this line yet")]
-    NotBuilt,
 }
 
 /// Why bytes are no script.

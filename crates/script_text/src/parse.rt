@@ -185,7 +185,7 @@ fn answer(alloc: Global, bytes: &[u8]) -> Result<Script, ScriptFault>
 /// Its lines end by line feeds, which the last may lack. A line that is empty, has only spaces or begins with `#` is
 /// passed over; every other is a statement of words between spaces. The first is `nodes N`, the next may be
 /// `workers W`, the next `log`, and each later one is `join` or a line of a lane. Where a line is refused, the answer names the first
-/// one that is and its first cause, in the order text, nodes, word, count, range, query; `NotBuilt` is never answered.
+/// one that is and its first cause, in the order text, nodes, word, count, range, query.
 pub fn parse_script(alloc: Global, bytes: &[u8]) -> Result<Script, ScriptFault>
     // What is answered.
     ensures script { IfOk result (SpellsScript bytes.now) }

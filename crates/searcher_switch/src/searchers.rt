@@ -152,7 +152,8 @@ impl<R: Share + Drop> Searchers<R> {
         )
     }
 
-    /// Searches a newer point from now on. Its files are held before those of the older one are given back.
+    /// Searches a newer point from now on. Its files are held before those of the older one are given back, so they are there also behind
+    /// that.
     pub fn switch<D: Dir>(
         &mut self,
         version: Version,
@@ -166,6 +167,7 @@ impl<R: Share + Drop> Searchers<R> {
         requires counts { AreCounted (searcher_names self.old) files.old }
         ensures ok { OnOk result (self.new.point
             ≡ record { version = version; names = names; readers = readers }) }
+        ensures there { OnOk result (AreThere (D.cells dir.new) names) }
         ensures err { OnErr result ((self.new ≡ self.old) × (files.new ≡ files.old)
             × (D.cells dir.new ≡ D.cells dir.old)) }
         ensures tickets { self.new.tickets ≡ self.old.tickets }

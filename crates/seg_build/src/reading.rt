@@ -12,7 +12,7 @@ use crate::files::{SegFiles, first_record};
 use bytes::Bytes;
 use file_names::FileName;
 use nrt_base::{NoMemory, Share};
-use seg_reader::{SegParts, Segment};
+use seg_reader::{SegFault, SegParts, Segment};
 use std::alloc::{AllocError, Global};
 
 // The parts of a segment, from its files.
@@ -39,6 +39,17 @@ fn parts_in(alloc: Global, files: &[(FileName, Bytes)]) -> Result<SegParts, NoMe
     })
 }
 
+// Want of memory, where the files are not refused.
+fn want_of_memory(fault: SegFault) -> NoMemory
+    requires { fault ≡ SegFault.Memory }
+{
+    match fault {
+        SegFault::Memory => AllocError,
+        SegFault::File(_, _) => unreachable!(),
+        SegFault::Disagrees { .. } => unreachable!(),
+    }
+}
+
 /// Reads the segment from the files that were built: it shows what they were built from. The files are shared, and the bits
 /// of the live rows are copied.
 pub fn read_back(alloc: Global, built: &SegFiles) -> Result<Segment, NoMemory>
@@ -57,6 +68,6 @@ pub fn read_back(alloc: Global, built: &SegFiles) -> Result<Segment, NoMemory>
     let parts = parts_in(alloc, built.files.as_slice())?;
     match Segment::from_parts(alloc, parts, &record) {
         Ok(segment) => Ok(segment),
-        Err(_) => Err(AllocError),
+        Err(fault) => Err(want_of_memory(fault)),
     }
 }

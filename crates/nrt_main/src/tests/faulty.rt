@@ -1,4 +1,4 @@
-//! Planned faults of disks: whatever fails, the report is legal.
+//! Planned faults: whatever fails, the report is legal.
 
 use super::{Meeting, has_line, run_gated, words};
 use crate::gate::OpenGate;
@@ -73,6 +73,14 @@ const REOPEN: &[u8] =
 const REMOVAL: &[u8] =
     b"nodes 2\n1 put a x\n1 publish\n1 copy 2\n1 commit 2\n1 put b x\n1 publish\n1 copy 2\n1 fault stop 2 7\n1 commit 2\n";
 
+// The link fails at the second part; the next copy takes over the first, and brings two, before the plan's third.
+const LINK: &[u8] =
+    b"nodes 2\n1 put a x\n1 publish\n1 fault link 2 2\n1 copy 2\n1 fault link 2 3\n1 copy 2\n1 files 2\n";
+
+// A part is damaged, then the second one of the next copy; the third copy takes the first one over.
+const DAMAGE: &[u8] =
+    b"nodes 2\n1 put a x\n1 publish\n1 fault damage 2 1 36\n1 copy 2\n1 fault damage 2 2 80\n1 copy 2\n1 copy 2\n1 search 2 x\n";
+
 #[test]
 fn rows_of_faults(rt: HostRuntime) -> Result<(), Fail> {
     let rows: &[(&[u8], &[u8])] = &[
@@ -91,6 +99,14 @@ fn rows_of_faults(rt: HostRuntime) -> Result<(), Fail> {
         (
             REMOVAL,
             b"\n9 planned stop 2 7\n10 committing 2 3\n10 fault 2 stop\n10 committed 2 3\n",
+        ),
+        (
+            LINK,
+            b"\n4 planned link 2 2\n5 copying 2 2\n5 fault 2 link\n5 refused link-fault\n6 planned link 2 3\n7 copying 2 2\n7 switched 2 2\n7 copied 2 2\n8 files 2 _10000.docs _10000.post _10000.si\n",
+        ),
+        (
+            DAMAGE,
+            b"\n4 planned damage 2 1 36\n5 copying 2 2\n5 fault 2 damage\n5 refused damaged _10000.docs\n6 planned damage 2 2 80\n7 copying 2 2\n7 fault 2 damage\n7 refused damaged _10000.post\n8 copying 2 2\n8 switched 2 2\n8 copied 2 2\n9 opened 2 0 2\n9 answer 2 0 2 1 1:a\n",
         ),
     ];
     for (script, wanted) in rows {
@@ -145,13 +161,13 @@ const MERGES: &[u8] =
     b"1 put a x\n1 publish\n1 open 1 3\n1 put b x\n1 publish\n1 settle\n1 merge 2\n1 drain 9\n1 publish\n1 close 3\n1 commit 1\n1 commit 2\n1 commit 1\n1 commit 2\n1 settle\n1 crash 1 0\n1 promote 2 auto\n1 put c x\n1 publish\n1 reopen 1\n1 copy 1\n1 search 1 x\n1 files 1\n1 files 2\n";
 
 #[test]
-fn faults_of_disks(rt: HostRuntime) -> Result<(), Fail> {
+fn faults_of_each_kind(rt: HostRuntime) -> Result<(), Fail> {
     let alloc = rt.alloc();
-    for kind in ["disk", "stop"] {
+    for (kind, place) in [("disk", ""), ("stop", ""), ("link", ""), ("damage", " 37")] {
         for node in 1..=2u32 {
             for call in 1..=20u32 {
                 for rest in [LIVES, MERGES] {
-                    let plan = format!(in alloc; "nodes 2\n1 fault {kind} {node} {call}\n")?;
+                    let plan = format!(in alloc; "nodes 2\n1 fault {kind} {node} {call}{place}\n")?;
                     let mut script = plan.as_bytes().to_vec(alloc)?;
                     script.extend_from_slice(rest)?;
                     assert!(rt; is_legal(&rt, alloc, script.as_slice())?);

@@ -9,24 +9,26 @@ use Rattle.history_rules.specs.Rules.{IsLineWhole}
 use Rattle.history_tables.specs.Begins.{open_line}
 use Rattle.history_book.specs.Log.{Log, printed, shown, kept}
 use Rattle.history_book.specs.Jobs.{job_of}
-use Rattle.link_model.specs.declared.fate.Fate.TheVariants.{Whole}
+use Rattle.link_model.specs.declared.fate.Fate.{Fate}
 use Rattle.history_book.specs.declared.inner.Inner.TheVariants.{FileOut, JobEnd}
 use Rattle.cluster_nodes.specs.declared.went.Went.{Went}
 use Rattle.cluster_nodes.specs.Went.{ByWent}
 use Rattle.cluster_nodes.specs.JobChanges.{HasNextFile}
 use Rattle.cluster_nodes.specs.JobPlaces.{FinishesIn, StopsIn, ReadsIn}
 use Rattle.cluster_nodes.specs.Places.{place_of}
+use Rattle.merge_tasks.specs.Fates.{fate_due}
+use Rattle.cluster_state.specs.DueFaults.{MeetsFate, with_due}
 use Rattle.cluster_state.specs.Run.{Run}
 use Rattle.cluster_state.specs.Copies.{JobRuns, ended_log}
 use Rattle.cluster_state.specs.Met.{met_in, with_met, ArePlanned}
 use Rattle.cluster_state.proofs.Ledgers.{asked_of, legal_of, turns_of, lane_of, replica_of}
 use Rattle.cluster_state.proofs.MergingPaths.{two_parts, three_parts}
 use Rattle.cluster_state.proofs.MergingStill.{stand_same, stand_kept, all_keep}
-use Rattle.cluster_state.proofs.MetStands.{on_any, behind, run_behind, now_behind}
+use Rattle.cluster_state.proofs.MetStands.{on_any, behind, run_behind, now_behind, met_as_told}
 use Rattle.cluster_copies.proofs.HandPaths.{next_slot, next_job, can_read, hand_path, first_of, same_files, hand_meta, hand_footer}
 use Rattle.cluster_copies.proofs.Ending.{can_finish, can_stop, copy_here, finish_path}
 use Rattle.cluster_copies.proofs.TransferMerges.{read_stand, ended_stand, finished_stand}
-use Rattle.cluster_copies.proofs.Calls.{as_nodes, met_stands, JobCall, runs_met, lane_met, replica_met, source_met, primary_met, begun_met, node_rule, source_rule, refused_turn, refused_path, refused_files}
+use Rattle.cluster_copies.proofs.Calls.{as_nodes, met_stands, JobCall, behind_due, run_due, due_stand, fetches_met, alive1, runs_due, lane_due, replica_due, primary_due, meets_due, runs_met, lane_met, replica_met, source_met, primary_met, begun_met, node_rule, source_rule, refused_turn, refused_path, refused_files}
 use Rattle.cluster_copies.proofs.transfers.go_on.Goals as goal
 
 pub is_unanswered-requires : goal.is_unanswered-requires
@@ -398,7 +400,7 @@ invariant_of-cluster-in-Failed g c =
       node_p = c.source_of-p.ensures.node;
       primary = c.source_of-p.ensures.is;
     } in
-    λ running. refused_path k c.as_slice-met.result.now (map (met_in g.D.FaultDir.planned) c.finish_in.new.places.items) c.note_refused.new.ledger c.finish_in.new.places.items None c.files_last.ensures c.note_refused.ensures.legal c.note_refused.ensures.turns (node_rule k c.as_slice-met.result.now (map (met_in g.D.FaultDir.planned) c.finish_in.new.places.items) c.in_ok-must_have_risen-in-Failed.ensures)
+    λ running. refused_path k c.as_slice-met.result.now (map (met_in g.D.FaultDir.planned) c.finish_in.new.places.items) DiskFault c.note_refused.new.ledger c.finish_in.new.places.items None c.files_last.ensures c.note_refused.ensures.legal c.note_refused.ensures.turns (node_rule k c.as_slice-met.result.now (map (met_in g.D.FaultDir.planned) c.finish_in.new.places.items) c.in_ok-must_have_risen-in-Failed.ensures)
     c.note_refused.ensures.log c.note_refused.ensures.nodes c.note_refused.ensures.cut tt (subst (λ (x : Went Unit). ByWent (λ done. FinishesIn g.D.Dir.cells c.source_of-p.result.0 c.args.row.job.node.0 c.cluster.inside.places.items c.finish_in.new.places.items) (StopsIn g.D.Dir.cells None c.source_of-p.result.0 c.args.row.job.node.0 c.cluster.inside.places.items c.finish_in.new.places.items) x) c.in-Failed.is c.in_ok-finished-in-None.ensures.went)
 
 pub returns-in-None-clause-ok : goal.returns-in-None-clause-ok
@@ -488,14 +490,14 @@ must_be_planned-requires-in-Some-clause-places g c =
     } in
     c.in_ok-read-in-Some.ensures.count ∙ (as_nodes k.call ∙ sym c.book-in-Some.ensures.nodes)
 
-pub note_file-requires-clause-room : goal.note_file-requires-clause-room
-note_file-requires-clause-room g c =
+pub note_file-fate-requires-clause-room : goal.note_file-fate-requires-clause-room
+note_file-fate-requires-clause-room g c =
     let room = c.in_ok-before.ensures.room in
     let same = ap (λ (xs : List (ℕ × ℕ)). length xs) c.as_slice-met.ensures.value in
     omega (arith, room, same)
 
-pub note_file-requires-clause-count : goal.note_file-requires-clause-count
-note_file-requires-clause-count g c =
+pub note_file-fate-requires-clause-count : goal.note_file-fate-requires-clause-count
+note_file-fate-requires-clause-count g c =
     let k : JobCall g.D.Dir.cells c.args.cluster.now c.cluster.inside.ledger c.met_before.new.ledger c.cluster.inside.places.items c.cluster.inside.tasks c.args.row c.source_of-p.result = record {
       call = record {
         ended = _;
@@ -518,8 +520,8 @@ note_file-requires-clause-count g c =
     } in
     ap (λ (xs : List (ℕ × ℕ)). length xs) (c.as_slice-met.ensures.value ∙ c.in_ok-before.ensures.met) ∙ (length-map c.cluster.inside.places.items (met_in g.D.FaultDir.planned) ∙ as_nodes k.call)
 
-pub note_file-requires-clause-places : goal.note_file-requires-clause-places
-note_file-requires-clause-places g c =
+pub note_file-fate-requires-clause-places : goal.note_file-fate-requires-clause-places
+note_file-fate-requires-clause-places g c =
     let k : JobCall g.D.Dir.cells c.args.cluster.now c.cluster.inside.ledger c.met_before.new.ledger c.cluster.inside.places.items c.cluster.inside.tasks c.args.row c.source_of-p.result = record {
       call = record {
         ended = _;
@@ -542,17 +544,117 @@ note_file-requires-clause-places g c =
     } in
     c.in_ok-read-in-Some.ensures.count ∙ as_nodes k.call
 
-pub note_file-requires-clause-few : goal.note_file-requires-clause-few
-note_file-requires-clause-few g c =
+pub note_file-fate-requires-clause-few : goal.note_file-fate-requires-clause-few
+note_file-fate-requires-clause-few g c =
     subst (λ (xs : List (ℕ × ℕ)). length xs ≤ 255) (sym c.as_slice-met.ensures.value) c.in_ok-before.ensures.few
 
-pub note_file-requires-clause-planned : goal.note_file-requires-clause-planned
-note_file-requires-clause-planned g c =
+pub note_file-fate-requires-clause-planned : goal.note_file-fate-requires-clause-planned
+note_file-fate-requires-clause-planned g c =
     subst (λ (l : Log). ArePlanned 1 c.as_slice-met.result.now (map (met_in g.D.FaultDir.planned) c.read_for_in.new.places.items) (printed l)) c.book-in-Some.ensures.log c.in_ok-must_be_planned-in-Some.ensures
 
-pub note_file-requires-clause-unanswered : goal.note_file-requires-clause-unanswered
-note_file-requires-clause-unanswered g c =
+pub note_file-fate-requires-clause-unanswered : goal.note_file-fate-requires-clause-unanswered
+note_file-fate-requires-clause-unanswered g c =
     ap (λ (l : Log). is_answered c.args.row.job.at (printed l)) (sym (c.book-book.ensures.log ∙ sym c.in_ok-before.ensures.log)) ∙ c.is_unanswered.ensures
+
+pub must_be_spared-requires-clause-node : goal.must_be_spared-requires-clause-node
+must_be_spared-requires-clause-node g c =
+    let k : JobCall g.D.Dir.cells c.args.cluster.now c.cluster.inside.ledger c.met_before.new.ledger c.cluster.inside.places.items c.cluster.inside.tasks c.args.row c.source_of-p.result = record {
+      call = record {
+        ended = _;
+        left = _;
+        view = c.cluster.view_is;
+        running = c.requires.running;
+        all = c.cluster.invariant;
+        e1 = c.in_ok-before.ensures.log;
+        n1 = c.in_ok-before.ensures.nodes;
+        c1 = c.in_ok-before.ensures.cut;
+      };
+      runs = c.requires.runs;
+      line = c.requires.line;
+      ordered = c.requires.ordered;
+      legal = legal_of c.book-book.ensures.nodes c.book-book.ensures.log c.is_legal.ensures.legal;
+      lane = lane_of c.book-book.ensures.nodes c.book-book.ensures.log c.job_shows.ensures;
+      replica = replica_of c.book-book.ensures.log c.job_replica.ensures;
+      node_p = c.source_of-p.ensures.node;
+      primary = c.source_of-p.ensures.is;
+    } in
+    (lane_met k c.as_slice-met.result.now (map (met_in g.D.FaultDir.planned) c.read_for_in.new.places.items)).node
+
+pub must_be_spared-requires-clause-line : goal.must_be_spared-requires-clause-line
+must_be_spared-requires-clause-line g c =
+    asked_of (λ (l : Log). open_line c.args.row.job.at (printed l) ≢ None) c.cluster.view_is c.in_ok-before.ensures.log c.requires.line
+
+pub note_file-fate-requires-clause-node : goal.note_file-fate-requires-clause-node
+note_file-fate-requires-clause-node g c =
+    let k : JobCall g.D.Dir.cells c.args.cluster.now c.cluster.inside.ledger c.met_before.new.ledger c.cluster.inside.places.items c.cluster.inside.tasks c.args.row c.source_of-p.result = record {
+      call = record {
+        ended = _;
+        left = _;
+        view = c.cluster.view_is;
+        running = c.requires.running;
+        all = c.cluster.invariant;
+        e1 = c.in_ok-before.ensures.log;
+        n1 = c.in_ok-before.ensures.nodes;
+        c1 = c.in_ok-before.ensures.cut;
+      };
+      runs = c.requires.runs;
+      line = c.requires.line;
+      ordered = c.requires.ordered;
+      legal = legal_of c.book-book.ensures.nodes c.book-book.ensures.log c.is_legal.ensures.legal;
+      lane = lane_of c.book-book.ensures.nodes c.book-book.ensures.log c.job_shows.ensures;
+      replica = replica_of c.book-book.ensures.log c.job_replica.ensures;
+      node_p = c.source_of-p.ensures.node;
+      primary = c.source_of-p.ensures.is;
+    } in
+    (lane_met k c.as_slice-met.result.now (map (met_in g.D.FaultDir.planned) c.read_for_in.new.places.items)).node
+
+pub note_file-fate-requires-clause-fetched : goal.note_file-fate-requires-clause-fetched
+note_file-fate-requires-clause-fetched g c =
+    let k : JobCall g.D.Dir.cells c.args.cluster.now c.cluster.inside.ledger c.met_before.new.ledger c.cluster.inside.places.items c.cluster.inside.tasks c.args.row c.source_of-p.result = record {
+      call = record {
+        ended = _;
+        left = _;
+        view = c.cluster.view_is;
+        running = c.requires.running;
+        all = c.cluster.invariant;
+        e1 = c.in_ok-before.ensures.log;
+        n1 = c.in_ok-before.ensures.nodes;
+        c1 = c.in_ok-before.ensures.cut;
+      };
+      runs = c.requires.runs;
+      line = c.requires.line;
+      ordered = c.requires.ordered;
+      legal = legal_of c.book-book.ensures.nodes c.book-book.ensures.log c.is_legal.ensures.legal;
+      lane = lane_of c.book-book.ensures.nodes c.book-book.ensures.log c.job_shows.ensures;
+      replica = replica_of c.book-book.ensures.log c.job_replica.ensures;
+      node_p = c.source_of-p.ensures.node;
+      primary = c.source_of-p.ensures.is;
+    } in
+    fetches_met k c.as_slice-met.result.now (map (met_in g.D.FaultDir.planned) c.read_for_in.new.places.items)
+
+pub note_file-fate-requires-clause-alive : goal.note_file-fate-requires-clause-alive
+note_file-fate-requires-clause-alive g c =
+    let k : JobCall g.D.Dir.cells c.args.cluster.now c.cluster.inside.ledger c.met_before.new.ledger c.cluster.inside.places.items c.cluster.inside.tasks c.args.row c.source_of-p.result = record {
+      call = record {
+        ended = _;
+        left = _;
+        view = c.cluster.view_is;
+        running = c.requires.running;
+        all = c.cluster.invariant;
+        e1 = c.in_ok-before.ensures.log;
+        n1 = c.in_ok-before.ensures.nodes;
+        c1 = c.in_ok-before.ensures.cut;
+      };
+      runs = c.requires.runs;
+      line = c.requires.line;
+      ordered = c.requires.ordered;
+      legal = legal_of c.book-book.ensures.nodes c.book-book.ensures.log c.is_legal.ensures.legal;
+      lane = lane_of c.book-book.ensures.nodes c.book-book.ensures.log c.job_shows.ensures;
+      replica = replica_of c.book-book.ensures.log c.job_replica.ensures;
+      node_p = c.source_of-p.ensures.node;
+      primary = c.source_of-p.ensures.is;
+    } in
+    alive1 k c.as_slice-met.result.now (map (met_in g.D.FaultDir.planned) c.read_for_in.new.places.items)
 
 pub invariant_of-cluster-in-Done-read : goal.invariant_of-cluster-in-Done-read
 invariant_of-cluster-in-Done-read g c =
@@ -576,22 +678,45 @@ invariant_of-cluster-in-Done-read g c =
       node_p = c.source_of-p.ensures.node;
       primary = c.source_of-p.ensures.is;
     } in
-    let st = met_stands k.call c.args.row.job.at c.as_slice-met.result.now (map (met_in g.D.FaultDir.planned) c.read_for_in.new.places.items) in
+    let st = due_stand k c.as_slice-met.result.now (map (met_in g.D.FaultDir.planned) c.read_for_in.new.places.items) in
     let b = (subst (λ (x : Went (List ℕ)). ByWent (λ bytes. ReadsIn g.D.Dir.cells c.source_of-p.result.0 c.in-Some.file.0 bytes c.cluster.inside.places.items c.read_for_in.new.places.items) (StopsIn g.D.Dir.cells None c.source_of-p.result.0 c.args.row.job.node.0 c.cluster.inside.places.items c.read_for_in.new.places.items) x) c.in-Done-read.is c.in_ok-read-in-Some.ensures.went) in
-    let read = stand_same c.cluster.inside.tasks c.cluster.inside.places.items c.read_for_in.new.places.items (behind c.args.row.job.at c.as_slice-met.result.now (map (met_in g.D.FaultDir.planned) c.read_for_in.new.places.items) c.met_before.new.ledger) (behind c.args.row.job.at c.as_slice-met.result.now (map (met_in g.D.FaultDir.planned) c.read_for_in.new.places.items) c.met_before.new.ledger) refl refl refl
-    (read_stand g.D.Dir.cells c.cluster.inside.tasks (run_behind c.args.row.job.at c.as_slice-met.result.now (map (met_in g.D.FaultDir.planned) c.read_for_in.new.places.items) c.met_before.new.ledger c.args.cluster.now) c.args.cluster.now.ended (behind c.args.row.job.at c.as_slice-met.result.now (map (met_in g.D.FaultDir.planned) c.read_for_in.new.places.items) c.met_before.new.ledger) c.cluster.inside.places.items c.read_for_in.new.places.items c.source_of-p.result c.in-Some.file.0 c.in-Done-read.source refl (source_met k c.as_slice-met.result.now (map (met_in g.D.FaultDir.planned) c.read_for_in.new.places.items)) b st.2) st.2 in
+    let read = stand_same c.cluster.inside.tasks c.cluster.inside.places.items c.read_for_in.new.places.items (behind_due c.args.row.job.at c.args.row.job.node.0 c.as_slice-met.result.now (map (met_in g.D.FaultDir.planned) c.read_for_in.new.places.items) c.met_before.new.ledger) (behind_due c.args.row.job.at c.args.row.job.node.0 c.as_slice-met.result.now (map (met_in g.D.FaultDir.planned) c.read_for_in.new.places.items) c.met_before.new.ledger) refl refl refl
+    (read_stand g.D.Dir.cells c.cluster.inside.tasks (run_due c.args.row.job.at c.args.row.job.node.0 c.as_slice-met.result.now (map (met_in g.D.FaultDir.planned) c.read_for_in.new.places.items) c.met_before.new.ledger c.args.cluster.now) c.args.cluster.now.ended (behind_due c.args.row.job.at c.args.row.job.node.0 c.as_slice-met.result.now (map (met_in g.D.FaultDir.planned) c.read_for_in.new.places.items) c.met_before.new.ledger) c.cluster.inside.places.items c.read_for_in.new.places.items c.source_of-p.result c.in-Some.file.0 c.in-Done-read.source refl (source_met k c.as_slice-met.result.now (map (met_in g.D.FaultDir.planned) c.read_for_in.new.places.items)) b st.2) st.2 in
     λ running. three_parts
-    (hand_path g.D.Dir.cells (run_behind c.args.row.job.at c.as_slice-met.result.now (map (met_in g.D.FaultDir.planned) c.read_for_in.new.places.items) c.met_before.new.ledger c.args.cluster.now) c.args.cluster.now.ended (behind c.args.row.job.at c.as_slice-met.result.now (map (met_in g.D.FaultDir.planned) c.read_for_in.new.places.items) c.met_before.new.ledger) c.cluster.inside.places.items c.args.row refl c.requires.running (λ e. (st.0, st.1)) (runs_met k c.as_slice-met.result.now (map (met_in g.D.FaultDir.planned) c.read_for_in.new.places.items)) (lane_met k c.as_slice-met.result.now (map (met_in g.D.FaultDir.planned) c.read_for_in.new.places.items)) (replica_met k c.as_slice-met.result.now (map (met_in g.D.FaultDir.planned) c.read_for_in.new.places.items))
-    (behind c.args.row.job.at c.as_slice-met.result.now (map (met_in g.D.FaultDir.planned) c.read_for_in.new.places.items) c.met_before.new.ledger) c.note_file.new.ledger c.read_for_in.new.places.items c.source_of-p.result c.in-Some.file.0 c.in-Some.file.1 c.in-Done-read.source c.in_ok-copy-in-Done-read.copy c.files_last.ensures (source_met k c.as_slice-met.result.now (map (met_in g.D.FaultDir.planned) c.read_for_in.new.places.items)) (primary_met k c.as_slice-met.result.now (map (met_in g.D.FaultDir.planned) c.read_for_in.new.places.items)) (subst (HasNextFile (place_of c.cluster.inside.places.items c.args.row.job.node.0)) c.in-Some.is c.in_ok-next_in.ensures) b c.in_ok-copy-in-Done-read.ensures refl refl c.note_file.ensures.log c.note_file.ensures.nodes)
-    (stand_kept c.cluster.inside.tasks c.read_for_in.new.places.items c.read_for_in.new.places.items (behind c.args.row.job.at c.as_slice-met.result.now (map (met_in g.D.FaultDir.planned) c.read_for_in.new.places.items) c.met_before.new.ledger) c.note_file.new.ledger (FileOut c.args.row.job.at.line c.args.row.job.node c.args.row.job.number c.in-Some.file.0 c.in_ok-copy-in-Done-read.copy Whole (Some c.args.row.job.at)) c.note_file.ensures.log c.note_file.ensures.nodes c.note_file.ensures.cut refl (all_keep _ c.cluster.inside.tasks _ _ _ read) read)
+    (hand_path g.D.Dir.cells (run_due c.args.row.job.at c.args.row.job.node.0 c.as_slice-met.result.now (map (met_in g.D.FaultDir.planned) c.read_for_in.new.places.items) c.met_before.new.ledger c.args.cluster.now) c.args.cluster.now.ended (behind_due c.args.row.job.at c.args.row.job.node.0 c.as_slice-met.result.now (map (met_in g.D.FaultDir.planned) c.read_for_in.new.places.items) c.met_before.new.ledger) c.cluster.inside.places.items c.args.row refl c.requires.running (λ e. (st.0, st.1)) (runs_due k c.as_slice-met.result.now (map (met_in g.D.FaultDir.planned) c.read_for_in.new.places.items)) (lane_due k c.as_slice-met.result.now (map (met_in g.D.FaultDir.planned) c.read_for_in.new.places.items)) (replica_due k c.as_slice-met.result.now (map (met_in g.D.FaultDir.planned) c.read_for_in.new.places.items))
+    (behind_due c.args.row.job.at c.args.row.job.node.0 c.as_slice-met.result.now (map (met_in g.D.FaultDir.planned) c.read_for_in.new.places.items) c.met_before.new.ledger) c.note_file-fate.new.ledger c.read_for_in.new.places.items c.source_of-p.result c.in-Some.file.0 c.in-Some.file.1 c.in-Done-read.source c.in_ok-copy-in-Done-read.copy c.note_file-fate.result c.files_last.ensures (source_met k c.as_slice-met.result.now (map (met_in g.D.FaultDir.planned) c.read_for_in.new.places.items)) (primary_due k c.as_slice-met.result.now (map (met_in g.D.FaultDir.planned) c.read_for_in.new.places.items)) (subst (HasNextFile (place_of c.cluster.inside.places.items c.args.row.job.node.0)) c.in-Some.is c.in_ok-next_in.ensures) b c.in_ok-copy-in-Done-read.ensures refl refl c.note_file-fate.ensures.log c.note_file-fate.ensures.nodes)
+    (stand_kept c.cluster.inside.tasks c.read_for_in.new.places.items c.read_for_in.new.places.items (behind_due c.args.row.job.at c.args.row.job.node.0 c.as_slice-met.result.now (map (met_in g.D.FaultDir.planned) c.read_for_in.new.places.items) c.met_before.new.ledger) c.note_file-fate.new.ledger (FileOut c.args.row.job.at.line c.args.row.job.node c.args.row.job.number c.in-Some.file.0 c.in_ok-copy-in-Done-read.copy c.note_file-fate.result (Some c.args.row.job.at)) c.note_file-fate.ensures.log c.note_file-fate.ensures.nodes c.note_file-fate.ensures.cut refl (all_keep _ c.cluster.inside.tasks _ _ _ read) read)
 
 pub returns-in-Done-read-clause-ok : goal.returns-in-Done-read-clause-ok
 returns-in-Done-read-clause-ok g c =
+    let k : JobCall g.D.Dir.cells c.args.cluster.now c.cluster.inside.ledger c.met_before.new.ledger c.cluster.inside.places.items c.cluster.inside.tasks c.args.row c.source_of-p.result = record {
+      call = record {
+        ended = _;
+        left = _;
+        view = c.cluster.view_is;
+        running = c.requires.running;
+        all = c.cluster.invariant;
+        e1 = c.in_ok-before.ensures.log;
+        n1 = c.in_ok-before.ensures.nodes;
+        c1 = c.in_ok-before.ensures.cut;
+      };
+      runs = c.requires.runs;
+      line = c.requires.line;
+      ordered = c.requires.ordered;
+      legal = legal_of c.book-book.ensures.nodes c.book-book.ensures.log c.is_legal.ensures.legal;
+      lane = lane_of c.book-book.ensures.nodes c.book-book.ensures.log c.job_shows.ensures;
+      replica = replica_of c.book-book.ensures.log c.job_replica.ensures;
+      node_p = c.source_of-p.ensures.node;
+      primary = c.source_of-p.ensures.is;
+    } in
     record {
-      now = now_behind g.D.FaultDir.planned c.cluster.inside.places.items c.read_for_in.new.places.items c.args.cluster.now _ c.cluster.inside.ledger c.met_before.new.ledger c.note_file.new.ledger c.args.row.job.at c.as_slice-met.result.now (map (met_in g.D.FaultDir.planned) c.read_for_in.new.places.items)
-          (λ l. kept (FileOut c.args.row.job.at.line c.args.row.job.node c.args.row.job.number c.in-Some.file.0 c.in-Done-read.source Whole (Some c.args.row.job.at)) ∷ l) c.cluster.view_is c.in_ok-before.ensures.log c.in_ok-before.ensures.nodes
-          (c.note_file.ensures.log ∙ ap (λ (x : _). kept (FileOut c.args.row.job.at.line c.args.row.job.node c.args.row.job.number c.in-Some.file.0 x Whole (Some c.args.row.job.at)) ∷ with_met false c.args.row.job.at 1 c.as_slice-met.result.now (map (met_in g.D.FaultDir.planned) c.read_for_in.new.places.items) c.met_before.new.ledger.log) c.in_ok-copy-in-Done-read.ensures) c.note_file.ensures.nodes (c.as_slice-met.ensures.value ∙ c.in_ok-before.ensures.met) refl refl refl;
-      first = first_of g.D.Dir.cells c.args.cluster.now _ c.cluster.inside.ledger _ c.args.row c.cluster.view_is c.requires.running (two_parts c.cluster.invariant) c.requires.runs (lane_of c.book-book.ensures.nodes c.book-book.ensures.log c.job_shows.ensures) (replica_of c.book-book.ensures.log c.job_replica.ensures) c.in-Some.file refl (subst (HasNextFile (place_of c.cluster.inside.places.items c.args.row.job.node.0)) c.in-Some.is c.in_ok-next_in.ensures);
+      now = now_behind g.D.FaultDir.planned c.cluster.inside.places.items c.read_for_in.new.places.items c.args.cluster.now _ c.cluster.inside.ledger c.met_before.new.ledger c.note_file-fate.new.ledger c.args.row.job.at c.as_slice-met.result.now (map (met_in g.D.FaultDir.planned) c.read_for_in.new.places.items)
+          (λ l. kept (FileOut c.args.row.job.at.line c.args.row.job.node c.args.row.job.number c.in-Some.file.0 c.in-Done-read.source c.note_file-fate.result (Some c.args.row.job.at)) ∷ with_due false c.args.row.job.at c.args.row.job.node.0 l) c.cluster.view_is c.in_ok-before.ensures.log c.in_ok-before.ensures.nodes
+          (c.note_file-fate.ensures.log ∙ ap (λ (x : _). kept (FileOut c.args.row.job.at.line c.args.row.job.node c.args.row.job.number c.in-Some.file.0 x c.note_file-fate.result (Some c.args.row.job.at)) ∷ with_due false c.args.row.job.at c.args.row.job.node.0 (with_met false c.args.row.job.at 1 c.as_slice-met.result.now (map (met_in g.D.FaultDir.planned) c.read_for_in.new.places.items) c.met_before.new.ledger.log)) c.in_ok-copy-in-Done-read.ensures) c.note_file-fate.ensures.nodes (c.as_slice-met.ensures.value ∙ c.in_ok-before.ensures.met) refl refl refl;
+      fate = c.note_file-fate.ensures.fate ∙ ap (fate_due c.args.row.job.node.0)
+          (met_as_told g.D.FaultDir.planned c.cluster.inside.places.items c.read_for_in.new.places.items c.args.cluster.now _ c.cluster.inside.ledger c.met_before.new.ledger c.args.row.job.at c.as_slice-met.result.now (map (met_in g.D.FaultDir.planned) c.read_for_in.new.places.items) c.cluster.view_is c.in_ok-before.ensures.log (c.as_slice-met.ensures.value ∙ c.in_ok-before.ensures.met) refl refl refl);
+      met = subst (λ (z : Fate × Log). MeetsFate z.0 c.args.row.job.at c.args.row.job.node.0 (printed z.1)) (λ i. (sym c.note_file-fate.ensures.fate i, sym c.note_file-fate.ensures.log i)) (meets_due k c.as_slice-met.result.now (map (met_in g.D.FaultDir.planned) c.read_for_in.new.places.items) c.in_ok-must_be_spared-in-Done-read.ensures);
+      first = first_of g.D.Dir.cells c.args.cluster.now _ c.cluster.inside.ledger _ c.args.row c.cluster.view_is c.requires.running (two_parts c.cluster.invariant) c.requires.runs (lane_of c.book-book.ensures.nodes c.book-book.ensures.log c.job_shows.ensures) (replica_of c.book-book.ensures.log c.job_replica.ensures) (c.in-Some.file.0, c.in-Some.file.1) refl (subst (HasNextFile (place_of c.cluster.inside.places.items c.args.row.job.node.0)) c.in-Some.is c.in_ok-next_in.ensures);
       files = same_files g.D.Dir.cells c.args.cluster.now _ c.cluster.inside.ledger _ c.args.row c.cluster.view_is c.requires.running (two_parts c.cluster.invariant) c.requires.runs (lane_of c.book-book.ensures.nodes c.book-book.ensures.log c.job_shows.ensures) (replica_of c.book-book.ensures.log c.job_replica.ensures) _ _ c.source_of-p.result c.in-Some.file.0 c.in-Done-read.source refl refl (subst (λ (x : Went (List ℕ)). ByWent (λ bytes. ReadsIn g.D.Dir.cells c.source_of-p.result.0 c.in-Some.file.0 bytes c.cluster.inside.places.items c.read_for_in.new.places.items) (StopsIn g.D.Dir.cells None c.source_of-p.result.0 c.args.row.job.node.0 c.cluster.inside.places.items c.read_for_in.new.places.items) x) c.in-Done-read.is c.in_ok-read-in-Some.ensures.went);
       meta = hand_meta g.D.Dir.cells c.args.cluster.now _ c.cluster.inside.ledger _ c.args.row c.cluster.view_is c.requires.running (two_parts c.cluster.invariant) c.requires.runs (lane_of c.book-book.ensures.nodes c.book-book.ensures.log c.job_shows.ensures) (replica_of c.book-book.ensures.log c.job_replica.ensures) _ c.source_of-p.result c.in-Some.file.0 c.in-Some.file.1 c.in-Done-read.source c.files_last.ensures c.source_of-p.ensures.node (subst (HasNextFile (place_of c.cluster.inside.places.items c.args.row.job.node.0)) c.in-Some.is c.in_ok-next_in.ensures) (subst (λ (x : Went (List ℕ)). ByWent (λ bytes. ReadsIn g.D.Dir.cells c.source_of-p.result.0 c.in-Some.file.0 bytes c.cluster.inside.places.items c.read_for_in.new.places.items) (StopsIn g.D.Dir.cells None c.source_of-p.result.0 c.args.row.job.node.0 c.cluster.inside.places.items c.read_for_in.new.places.items) x) c.in-Done-read.is c.in_ok-read-in-Some.ensures.went);
       footer = hand_footer g.D.Dir.cells c.args.cluster.now _ c.cluster.inside.ledger _ c.args.row c.cluster.view_is c.requires.running (two_parts c.cluster.invariant) c.requires.runs (lane_of c.book-book.ensures.nodes c.book-book.ensures.log c.job_shows.ensures) (replica_of c.book-book.ensures.log c.job_replica.ensures) _ c.source_of-p.result c.in-Some.file.0 c.in-Some.file.1 c.in-Done-read.source c.files_last.ensures c.source_of-p.ensures.node (subst (HasNextFile (place_of c.cluster.inside.places.items c.args.row.job.node.0)) c.in-Some.is c.in_ok-next_in.ensures) (subst (λ (x : Went (List ℕ)). ByWent (λ bytes. ReadsIn g.D.Dir.cells c.source_of-p.result.0 c.in-Some.file.0 bytes c.cluster.inside.places.items c.read_for_in.new.places.items) (StopsIn g.D.Dir.cells None c.source_of-p.result.0 c.args.row.job.node.0 c.cluster.inside.places.items c.read_for_in.new.places.items) x) c.in-Done-read.is c.in_ok-read-in-Some.ensures.went) (subst AreBytes c.as_slice.ensures c.are_bytes.ensures);
@@ -757,7 +882,7 @@ invariant_of-cluster-in-Failed-read g c =
       node_p = c.source_of-p.ensures.node;
       primary = c.source_of-p.ensures.is;
     } in
-    λ running. refused_path k c.as_slice-met.result.now (map (met_in g.D.FaultDir.planned) c.read_for_in.new.places.items) c.note_refused-in-Failed-read.new.ledger c.read_for_in.new.places.items None c.files_last.ensures c.note_refused-in-Failed-read.ensures.legal c.note_refused-in-Failed-read.ensures.turns (source_rule k c.as_slice-met.result.now (map (met_in g.D.FaultDir.planned) c.read_for_in.new.places.items) c.in_ok-must_have_risen-in-Failed-read.ensures)
+    λ running. refused_path k c.as_slice-met.result.now (map (met_in g.D.FaultDir.planned) c.read_for_in.new.places.items) DiskFault c.note_refused-in-Failed-read.new.ledger c.read_for_in.new.places.items None c.files_last.ensures c.note_refused-in-Failed-read.ensures.legal c.note_refused-in-Failed-read.ensures.turns (source_rule k c.as_slice-met.result.now (map (met_in g.D.FaultDir.planned) c.read_for_in.new.places.items) c.in_ok-must_have_risen-in-Failed-read.ensures)
     c.note_refused-in-Failed-read.ensures.log c.note_refused-in-Failed-read.ensures.nodes c.note_refused-in-Failed-read.ensures.cut tt (subst (λ (x : Went (List ℕ)). ByWent (λ bytes. ReadsIn g.D.Dir.cells c.source_of-p.result.0 c.in-Some.file.0 bytes c.cluster.inside.places.items c.read_for_in.new.places.items) (StopsIn g.D.Dir.cells None c.source_of-p.result.0 c.args.row.job.node.0 c.cluster.inside.places.items c.read_for_in.new.places.items) x) c.in-Failed-read.is c.in_ok-read-in-Some.ensures.went)
 
 pub returns-clause-ok : goal.returns-clause-ok
@@ -860,6 +985,14 @@ invariant_of-cluster-in_err-copy-in-Done-read g c =
 pub returns-in_err-copy-in-Done-read-clause-err : goal.returns-in_err-copy-in-Done-read-clause-err
 returns-in_err-copy-in-Done-read-clause-err g c =
     on_any c.from_residual-in_err-copy-in-Done-read.result (record { ended = refl; nodes = c.in_ok-before.ensures.nodes ∙ ap (λ (x : Run). x.nodes) c.cluster.view_is; log = c.in_ok-before.ensures.log ∙ ap (λ (x : Run). x.log) c.cluster.view_is })
+
+pub invariant_of-cluster-in_err-must_be_spared-in-Done-read : goal.invariant_of-cluster-in_err-must_be_spared-in-Done-read
+invariant_of-cluster-in_err-must_be_spared-in-Done-read g c =
+    λ ended. absurd (true≢false ended)
+
+pub returns-in_err-must_be_spared-in-Done-read-clause-err : goal.returns-in_err-must_be_spared-in-Done-read-clause-err
+returns-in_err-must_be_spared-in-Done-read-clause-err g c =
+    on_any c.from_residual-in_err-must_be_spared-in-Done-read.result (record { ended = refl; nodes = c.in_ok-before.ensures.nodes ∙ ap (λ (x : Run). x.nodes) c.cluster.view_is; log = c.in_ok-before.ensures.log ∙ ap (λ (x : Run). x.log) c.cluster.view_is })
 
 pub invariant_of-cluster-in_err-must_have_risen-in-Failed-read : goal.invariant_of-cluster-in_err-must_have_risen-in-Failed-read
 invariant_of-cluster-in_err-must_have_risen-in-Failed-read g c =

@@ -363,7 +363,7 @@ invariant_of-cluster-in-Failed g c =
       node_p = c.source_of-p.ensures.node;
       primary = c.source_of-p.ensures.is;
     } in
-    λ running. refused_path k c.as_slice-met.result.now (map (met_in g.D.FaultDir.planned) c.take_in.new.places.items) c.note_refused.new.ledger c.take_in.new.places.items (Some c.args.part) c.files_last.ensures c.note_refused.ensures.legal c.note_refused.ensures.turns (node_rule k c.as_slice-met.result.now (map (met_in g.D.FaultDir.planned) c.take_in.new.places.items) c.in_ok-must_have_risen-in-Failed.ensures)
+    λ running. refused_path k c.as_slice-met.result.now (map (met_in g.D.FaultDir.planned) c.take_in.new.places.items) DiskFault c.note_refused.new.ledger c.take_in.new.places.items (Some c.args.part) c.files_last.ensures c.note_refused.ensures.legal c.note_refused.ensures.turns (node_rule k c.as_slice-met.result.now (map (met_in g.D.FaultDir.planned) c.take_in.new.places.items) c.in_ok-must_have_risen-in-Failed.ensures)
     c.note_refused.ensures.log c.note_refused.ensures.nodes c.note_refused.ensures.cut c.requires.out (subst (λ (x : Went Unit). ByWent (λ done. TakesIn g.D.Dir.cells c.args.row.job.node.0 c.args.part c.cluster.inside.places.items c.take_in.new.places.items) (StopsIn g.D.Dir.cells (Some c.args.part) c.source_of-p.result.0 c.args.row.job.node.0 c.cluster.inside.places.items c.take_in.new.places.items) x) c.in-Failed.is c.in_ok-taken.ensures.went)
 
 pub returns-clause-ok : goal.returns-clause-ok

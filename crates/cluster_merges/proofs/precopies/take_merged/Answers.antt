@@ -7,27 +7,27 @@ use Rattle.merge_tasks.specs.Board.{open_merge, spread_at, has_copy_task}
 use Rattle.cluster_nodes.specs.Went.{ByWent}
 use Rattle.cluster_state.specs.Run.{Run}
 use Rattle.cluster_state.proofs.Ledgers.{asked_of, asked_size, legal_of}
+use Rattle.cluster_state.proofs.Turning.{running_has}
 use Rattle.cluster_merges.specs.TaskMet.{mets, behind}
 use Rattle.cluster_merges.specs.CopyTurns.{MeetsOf, FailsCopyOf}
 use Rattle.cluster_merges.proofs.InsideSteps.{all_is}
-use Rattle.cluster_merges.proofs.TaskPaths.{all_at}
 use Rattle.cluster_merges.proofs.CopyFacts.{copy_on}
 use Rattle.cluster_merges.proofs.TaskBehind.{line_there, takes_so}
 use Rattle.cluster_merges.proofs.precopies.take_merged.Goals as goal
 
 pub unreachable-requires : goal.unreachable-requires
 unreachable-requires g c =
-    line_there c.merge_on.result _ c.merge_on.ensures (copy_on c.cluster.inside.ledger.nodes c.cluster.inside.ledger.log c.cluster.inside.tasks c.args.seg.0 c.args.n.0 c.args.job (all_at c.cluster.view_is c.requires.running c.cluster.invariant).2.tasks (ap (λ (x : Run). has_copy_task c.args.n.0 c.args.job (spread_at (open_merge c.args.seg.0 x.rest.tasks.rows))) c.cluster.view_is ∙ c.requires.sent)) c.in_default.not-Some
+    line_there c.merge_on.result _ c.merge_on.ensures (copy_on c.cluster.inside.ledger.nodes c.cluster.inside.ledger.log c.cluster.inside.tasks c.args.seg.0 c.args.n.0 c.args.job (running_has c.cluster.view_is c.requires.running c.cluster.invariant).2.tasks (ap (λ (x : Run). has_copy_task c.args.n.0 c.args.job (spread_at (open_merge c.args.seg.0 x.rest.tasks.rows))) c.cluster.view_is ∙ c.requires.sent)) c.in_default.not-Some
 
 pub take_there-requires-clause-room : goal.take_there-requires-clause-room
 take_there-requires-clause-room g c = let room = c.in_ok-before.ensures.room in let same = c.as_slice.ensures.len in omega (arith, room, same)
 
 pub take_there-requires-clause-before : goal.take_there-requires-clause-before
-take_there-requires-clause-before g c = (c.as_slice.ensures.value ∙ c.in_ok-before.ensures.before)
+take_there-requires-clause-before g c = (c.as_slice.ensures.value ∙ c.in_ok-before.ensures.met)
 
 pub take_there-requires-clause-shown : goal.take_there-requires-clause-shown
 take_there-requires-clause-shown g c =
-    all_is g.D.Dir.cells c.cluster.inside.ledger c.met_before.new.ledger c.cluster.inside.tasks c.cluster.inside.places.items c.met_before.ensures.log c.met_before.ensures.nodes c.met_before.ensures.cut (all_at c.cluster.view_is c.requires.running c.cluster.invariant)
+    all_is g.D.Dir.cells c.cluster.inside.ledger c.met_before.new.ledger c.cluster.inside.tasks c.cluster.inside.places.items c.met_before.ensures.log c.met_before.ensures.nodes c.met_before.ensures.cut (running_has c.cluster.view_is c.requires.running c.cluster.invariant)
 
 pub take_there-requires-clause-node : goal.take_there-requires-clause-node
 take_there-requires-clause-node g c = asked_size (λ (k : ℕ). IsNode k c.args.n.0) c.cluster.view_is c.met_before.ensures.nodes c.requires.node
@@ -50,4 +50,4 @@ returns-clause-ok g c =
     refl refl refl _ refl c.take_there.new.ledger c.take_there.new.tasks refl c.in-Some.at c.args.line c.args.seg c.args.by c.args.n c.args.job (sym c.merge_on.ensures ∙ c.in-Some.is) c.in_ok-went.went
     (subst (λ (olds : List (ℕ × ℕ)). ByWent (λ done. MeetsOf (behind c.in-Some.at olds (mets g.D.FaultDir.planned c.take_there.new.places.items) c.met_before.new.ledger) c.take_there.new.ledger c.cluster.inside.tasks c.take_there.new.tasks)
     (FailsCopyOf c.args.line c.args.seg c.args.by c.args.n c.args.n c.args.job olds (mets g.D.FaultDir.planned c.take_there.new.places.items)
-    (behind c.in-Some.at olds (mets g.D.FaultDir.planned c.take_there.new.places.items) c.met_before.new.ledger) c.take_there.new.ledger c.cluster.inside.tasks c.take_there.new.tasks) c.in_ok-went.went) (c.as_slice.ensures.value ∙ c.in_ok-before.ensures.before) c.in_ok-went.ensures.ok)
+    (behind c.in-Some.at olds (mets g.D.FaultDir.planned c.take_there.new.places.items) c.met_before.new.ledger) c.take_there.new.ledger c.cluster.inside.tasks c.take_there.new.tasks) c.in_ok-went.went) (c.as_slice.ensures.value ∙ c.in_ok-before.ensures.met) c.in_ok-went.ensures.ok)

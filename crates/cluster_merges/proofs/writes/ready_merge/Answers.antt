@@ -6,9 +6,9 @@ use Rattle.merge_tasks.specs.Board.{open_merge, is_unwritten}
 use Rattle.cluster_state.specs.Run.{Run}
 use Rattle.cluster_state.specs.Settles.{AreReplicas}
 use Rattle.cluster_state.proofs.Ledgers.{asked_of, asked_size}
+use Rattle.cluster_state.proofs.Turning.{running_has}
 use Rattle.cluster_merges.specs.MergePaths.{IsMergedOut}
 use Rattle.cluster_merges.proofs.InsideSteps.{all_is}
-use Rattle.cluster_merges.proofs.TaskPaths.{all_at}
 use Rattle.cluster_merges.proofs.ReadyPaths.{is_on}
 use Rattle.cluster_merges.proofs.TaskBehind.{line_there, built_so}
 use Rattle.cluster_merges.proofs.writes.ready_merge.Goals as goal
@@ -16,7 +16,7 @@ use Rattle.cluster_merges.proofs.writes.ready_merge.Goals as goal
 pub unreachable-requires : goal.unreachable-requires
 unreachable-requires g c =
     line_there c.merge_on.result _ c.merge_on.ensures
-    (is_on g.D.Dir.cells c.cluster.inside.ledger c.cluster.inside.tasks c.cluster.inside.places.items c.args.p c.args.seg c.args.merged (all_at c.cluster.view_is c.requires.running c.cluster.invariant)
+    (is_on g.D.Dir.cells c.cluster.inside.ledger c.cluster.inside.tasks c.cluster.inside.places.items c.args.p c.args.seg c.args.merged (running_has c.cluster.view_is c.requires.running c.cluster.invariant)
     (asked_size (λ (k : ℕ). IsNode k c.args.p.0) c.cluster.view_is refl c.requires.node) (asked_of (λ (l : Log). primary_of (printed l) ≡ Some c.args.p) c.cluster.view_is refl c.requires.primary)
     (ap (λ (x : Run). is_unwritten (open_merge c.args.seg.0 x.rest.tasks.rows)) c.cluster.view_is ∙ c.requires.unwritten) (asked_of (λ (l : Log). IsMergedOut l c.args.seg c.args.merged) c.cluster.view_is refl c.requires.merged))
     c.in_default.not-Some
@@ -26,11 +26,11 @@ ready_there-requires-clause-room g c =
     let room = c.in_ok-before.ensures.room in let many = c.as_slice-2.ensures.len in let same = c.as_slice.ensures.len in let count = c.len.ensures in omega (arith, room, many, same, count)
 
 pub ready_there-requires-clause-before : goal.ready_there-requires-clause-before
-ready_there-requires-clause-before g c = c.as_slice-2.ensures.value ∙ c.in_ok-before.ensures.before
+ready_there-requires-clause-before g c = c.as_slice-2.ensures.value ∙ c.in_ok-before.ensures.met
 
 pub ready_there-requires-clause-shown : goal.ready_there-requires-clause-shown
 ready_there-requires-clause-shown g c =
-    all_is g.D.Dir.cells c.cluster.inside.ledger c.met_before.new.ledger c.cluster.inside.tasks c.cluster.inside.places.items c.met_before.ensures.log c.met_before.ensures.nodes c.met_before.ensures.cut (all_at c.cluster.view_is c.requires.running c.cluster.invariant)
+    all_is g.D.Dir.cells c.cluster.inside.ledger c.met_before.new.ledger c.cluster.inside.tasks c.cluster.inside.places.items c.met_before.ensures.log c.met_before.ensures.nodes c.met_before.ensures.cut (running_has c.cluster.view_is c.requires.running c.cluster.invariant)
 
 pub ready_there-requires-clause-node : goal.ready_there-requires-clause-node
 ready_there-requires-clause-node g c = asked_size (λ (k : ℕ). IsNode k c.args.p.0) c.cluster.view_is c.met_before.ensures.nodes c.requires.node

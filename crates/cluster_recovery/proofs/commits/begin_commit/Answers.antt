@@ -9,10 +9,10 @@ use Rattle.cluster_state.specs.Run.{Run}
 use Rattle.cluster_state.proofs.Frames.{slot_at}
 use Rattle.cluster_state.proofs.Ledgers.{asked_of, asked_size, fresh_of, legal_of, told_of, turns_of}
 use Rattle.cluster_state.proofs.MetStands.{on_any}
-use Rattle.cluster_state.proofs.Turning.{fresh_turn}
+use Rattle.cluster_state.proofs.Turning.{fresh_turn, running_has}
 use Rattle.cluster_recovery.proofs.CallsLeft.{begun_calls, waiting_calls, rests_here, calls_was}
 use Rattle.cluster_recovery.proofs.Committing.{stands_there, none_there, stays_in}
-use Rattle.cluster_recovery.proofs.CommitPaths.{begins_stand, carries_stand, stands_is, running_has, may_begin, stuck_there}
+use Rattle.cluster_recovery.proofs.CommitPaths.{begins_stand, carries_stand, stands_is, may_begin, stuck_there}
 use Rattle.cluster_recovery.proofs.commits.begin_commit.Goals as goal
 
 pub is_fresh-requires : goal.is_fresh-requires

@@ -13,7 +13,7 @@ use Rattle.cluster_state.proofs.Frames.{slot_at, there_at, rule_at}
 use Rattle.cluster_state.proofs.Ledgers.{asked_of, asked_size, fresh_of, legal_of, turns_of, down_of, uncommitting_of}
 use Rattle.cluster_state.proofs.MergingPaths.{two_parts, three_parts, third_at}
 use Rattle.cluster_state.proofs.MetStands.{now_behind, on_any}
-use Rattle.cluster_recovery.proofs.Reopening.{settled_there, rule_there, reopen_path}
+use Rattle.cluster_recovery.proofs.Reopening.{settled_there, opens_where, rule_there, reopen_path}
 use Rattle.cluster_recovery.proofs.ReopenMerges.{reopened_stands}
 use Rattle.cluster_recovery.proofs.MetLives.{plans_was}
 use Rattle.cluster_recovery.proofs.MetOnce.{own_log, own_failed, none_at}
@@ -34,6 +34,9 @@ reopen_in-requires-clause-there g c = there_at g.D.Dir.cells c.args.cluster.now 
 
 pub reopen_in-requires-clause-settled : goal.reopen_in-requires-clause-settled
 reopen_in-requires-clause-settled g c = settled_there g.D.Dir.cells c.args.cluster.now _ c.cluster.inside.ledger _ c.args.at c.args.n c.cluster.view_is c.requires.running (two_parts c.cluster.invariant) c.files_last.ensures (legal_of c.book-book.ensures.nodes c.book-book.ensures.log c.is_legal.ensures.legal) (turns_of c.book-book.ensures.log c.is_legal.ensures.turns) (fresh_of c.book-book.ensures.log c.is_fresh.ensures) c.requires.node c.requires.down
+
+pub reopen_in-requires-clause-opens : goal.reopen_in-requires-clause-opens
+reopen_in-requires-clause-opens g c = opens_where g.D.Dir.cells c.args.cluster.now _ c.cluster.inside.ledger _ c.args.at c.args.n c.cluster.view_is c.requires.running (two_parts c.cluster.invariant) c.files_last.ensures (legal_of c.book-book.ensures.nodes c.book-book.ensures.log c.is_legal.ensures.legal) (turns_of c.book-book.ensures.log c.is_legal.ensures.turns) (fresh_of c.book-book.ensures.log c.is_fresh.ensures) c.requires.node c.requires.down
 
 pub node_kinds-now-requires : goal.node_kinds-now-requires
 node_kinds-now-requires g c = slot_after g.D.Dir.cells g.D.Dir.faults c.args.n.0 c.cluster.inside.places.items c.reopen_in.new.places.items c.in_ok-went.went c.in_ok-went.ensures (slot_at g.D.Dir.cells c.args.cluster.now _ _ c.args.n.0 _ _ c.cluster.view_is c.requires.running (λ e. (c.cluster.invariant e).0) c.requires.node)

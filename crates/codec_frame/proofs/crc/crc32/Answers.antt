@@ -3,7 +3,7 @@ use Rattle.std.proofs.lemmas.Nat.{xor_comm}
 use Rattle.codec_frame.specs.Bytes.{AreBytes}
 use Rattle.codec_frame.specs.Division.{IsCrc, crc_of}
 use Rattle.codec_frame.specs.Register.{taken_in}
-use Rattle.codec_frame.proofs.Pairs.{word_taken}
+use Rattle.codec_frame.proofs.Triples.{word_taken}
 use Rattle.codec_frame.proofs.Remainder.{crc_of-register, crc_is_remainder, crc_is_the_only}
 use Rattle.codec_frame.proofs.crc.crc32.Goals as goal
 

@@ -7,7 +7,7 @@ use Rattle.lane_copies.proofs.precopying.bring_back.Goals as goal
 pub precopy_arrived-answer-requires-clause-out : goal.precopy_arrived-answer-requires-clause-out
 precopy_arrived-answer-requires-clause-out g c =
     let entered = found_entered c.args.lanes.now.lock.now c.args.at c.args.seat.now c.enter_site.new.seat c.value.result.now c.in_ok-held.held c.value.ensures.value c.in_ok-held.ensures.entered c.in_ok-held.ensures.logged in
-    source_stays c.args.at.lane.0 (log_seen c.args.seat.now) c.value.result.now.run.log entered.has.apart c.args.part.name c.args.part.bytes c.requires.out
+    source_stays c.args.at.lane.0 (log_seen c.args.seat.now) c.value.result.now.run.log entered.has.apart c.args.file.now.name c.args.file.now.source c.requires.out.out
 
 pub leave-requires-clause-extends : goal.leave-requires-clause-extends
 leave-requires-clause-extends g c =

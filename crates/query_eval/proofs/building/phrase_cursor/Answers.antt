@@ -4,9 +4,7 @@ use Rattle.postings_plain.specs.Postings.{Hit}
 use Rattle.documents.specs.Words.{words_of}
 use Rattle.documents.specs.Matching.{stands_in}
 use Rattle.documents.specs.Ranking.{times_of_phrase}
-use Rattle.query_eval.specs.Phrases.{phrase_times}
-use Rattle.query_eval.specs.Ranks.{rank_in}
-use Rattle.query_eval.proofs.PlaceLemmas.{placed_more, phrase_lacks, phrase_placed, times_lacking, times_placed, both_pushed, whole}
+use Rattle.query_eval.proofs.PlaceLemmas.{placed_more, phrase_lacks, phrase_placed, times_lacking, times_placed, whole}
 use Rattle.query_eval.proofs.building.phrase_cursor.Goals as goal
 
 pub returns-in-None-clause-answers : goal.returns-in-None-clause-answers
@@ -18,34 +16,24 @@ returns-in-None-clause-answers c = λ row doc is.
 
 pub returns-in-None-clause-ranks : goal.returns-in-None-clause-ranks
 returns-in-None-clause-ranks c = λ row doc is.
-    let none =
-    times_lacking c.args.seg.now c.as_slice-word-items.result.now c.loop-word.word-index c.word-item.result c.as_slice-in-loop-word.result.now c.requires.sound
+    sym (times_lacking c.args.seg.now c.as_slice-word-items.result.now c.loop-word.word-index c.word-item.result c.as_slice-in-loop-word.result.now c.requires.sound
     (slice_get_read c.as_slice-word-items.result.now _ c.loop-word.word-index c.word-item.result refl (omega arith) c.word-item.is)
-    c.as_slice-in-loop-word.ensures.bytes c.in-None.ensures.found row doc is in
-    let same = ap (λ (p : List (List ℕ)). times_of_phrase p (words_of doc.text)) c.as_slice-word-items.ensures in
-    omega (arith, none, same)
+    c.as_slice-in-loop-word.ensures.bytes c.in-None.ensures.found row doc is)
+    ∙ ap (λ (p : List (List ℕ)). times_of_phrase p (words_of doc.text)) c.as_slice-word-items.ensures
 
 pub loop-word-preserved : goal.loop-word-preserved
-loop-word-preserved c = record {
-  placed =
-      placed_more c.args.seg.now c.loop-word.words.items c.push-in-Some.new.self.items c.as_slice-word-items.result.now c.loop-word.word-index (c.loop-word.word-index + 1) c.word-item.result
-      c.as_slice-in-loop-word.result.now c.in-Some.hits c.requires.sound c.loop-word.invariant.placed
-      (slice_get_read c.as_slice-word-items.result.now _ c.loop-word.word-index c.word-item.result refl (omega arith) c.word-item.is)
-      c.as_slice-in-loop-word.ensures.bytes c.in-Some.ensures.found refl (c.in_ok-push-in-Some-2.ensures.items ∙ ap (λ (word : List Hit). c.loop-word.words.items ++ word ∷ []) c.new-in-Some.ensures);
-  same =
-      both_pushed c.loop-word.counted.items c.loop-word.words.items c.push.new.self.items c.push-in-Some.new.self.items c.new.result c.new-in-Some.result c.loop-word.invariant.same
-      (c.new.ensures ∙ c.again.ensures ∙ sym c.new-in-Some.ensures) c.in_ok-push-in-Some.ensures.items c.in_ok-push-in-Some-2.ensures.items;
-}
+loop-word-preserved c =
+    placed_more c.args.seg.now c.loop-word.words.items c.push.new.self.items c.as_slice-word-items.result.now c.loop-word.word-index (c.loop-word.word-index + 1) c.word-item.result
+    c.as_slice-in-loop-word.result.now c.in-Some.hits c.requires.sound c.loop-word.invariant
+    (slice_get_read c.as_slice-word-items.result.now _ c.loop-word.word-index c.word-item.result refl (omega arith) c.word-item.is)
+    c.as_slice-in-loop-word.ensures.bytes c.in-Some.ensures.found refl (c.in_ok-push-in-Some.ensures.items ∙ ap (λ (word : List Hit). c.loop-word.words.items ++ word ∷ []) c.new.ensures)
 
 pub returns-clause-answers : goal.returns-clause-answers
 returns-clause-answers c =
-    phrase_placed c.args.seg.now.docs c.loop-word.words.items c.args.phrase.now (take c.loop-word.word-index c.as_slice-word-items.result.now) c.loop-word.invariant.placed
+    phrase_placed c.args.seg.now.docs c.loop-word.words.items c.args.phrase.now (take c.loop-word.word-index c.as_slice-word-items.result.now) c.loop-word.invariant
     (whole c.loop-word.word-index c.as_slice-word-items.result.now (omega arith) ∙ c.as_slice-word-items.ensures) c.requires.some
 
 pub returns-clause-ranks : goal.returns-clause-ranks
-returns-clause-ranks c = λ row doc is.
-    c.in_ok-push.ensures row
-    ∙ ap (λ (n : ℕ). rank_in c.args.ranker.now row + n)
-    (ap (λ (ws : List (List Hit)). phrase_times ws row) c.loop-word.invariant.same
-    ∙ times_placed c.args.seg.now.docs c.loop-word.words.items c.args.phrase.now (take c.loop-word.word-index c.as_slice-word-items.result.now) c.loop-word.invariant.placed
-    (whole c.loop-word.word-index c.as_slice-word-items.result.now (omega arith) ∙ c.as_slice-word-items.ensures) c.requires.some row doc is)
+returns-clause-ranks c =
+    times_placed c.args.seg.now.docs c.loop-word.words.items c.args.phrase.now (take c.loop-word.word-index c.as_slice-word-items.result.now) c.loop-word.invariant
+    (whole c.loop-word.word-index c.as_slice-word-items.result.now (omega arith) ∙ c.as_slice-word-items.ensures) c.requires.some

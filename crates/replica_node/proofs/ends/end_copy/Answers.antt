@@ -11,20 +11,14 @@ end-requires g c =
     cancelled_counted g.D.Dir.cells p c.requires.whole (record { running = copies_without c.args.job p.copies.running; pending = p.copies.pending }) (job_names c.take-copy.result)
     (copy_split g.D.Dir.cells p c.requires.whole c.args.job c.take-copy.result (sym c.take-copy.ensures.copy))
 
-pub returns-clause-whole : goal.returns-clause-whole
-returns-clause-whole g c = left_whole g.D.Dir.cells c.args.parts.now c.requires.whole c.args.job c.take-copy.result (sym c.take-copy.ensures.copy) c.end.new.dir c.end.new.files c.end.ensures.lets_go c.take-copy.new.self c.take-copy.ensures.rest
-
-pub returns-clause-standing : goal.returns-clause-standing
-returns-clause-standing g c = left_standing g.D.Dir.cells c.args.parts.now c.requires.whole c.args.job c.take-copy.result (sym c.take-copy.ensures.copy) c.end.new.dir c.end.new.files c.end.ensures.lets_go c.take-copy.new.self c.take-copy.ensures.rest
-
-pub returns-clause-sourced : goal.returns-clause-sourced
-returns-clause-sourced g c = left_sourced g.D.Dir.cells c.args.parts.now c.requires.whole c.args.job c.take-copy.result (sym c.take-copy.ensures.copy) c.end.new.dir c.end.new.files c.end.ensures.lets_go c.take-copy.new.self c.take-copy.ensures.rest
-
-pub returns-clause-held : goal.returns-clause-held
-returns-clause-held g c = without_held g.D.Dir.cells c.args.parts.now c.requires.whole c.args.job c.take-copy.result (sym c.take-copy.ensures.copy) c.end.new.dir c.end.new.files c.end.ensures.lets_go
-
-pub returns-clause-fewer : goal.returns-clause-fewer
-returns-clause-fewer g c q = omega (arith, c.end.ensures.lets_go.counts q)
-
-pub returns-clause-appears : goal.returns-clause-appears
-returns-clause-appears g c = keeps_none c.args.parts.now.files c.end.new.files (g.D.Dir.cells c.args.parts.now.dir) (g.D.Dir.cells c.end.new.dir) c.end.ensures.lets_go.keeps
+pub returns-clause-back : goal.returns-clause-back
+returns-clause-back g c = record {
+  whole = left_whole g.D.Dir.cells c.args.parts.now c.requires.whole c.args.job c.take-copy.result (sym c.take-copy.ensures.copy) c.end.new.dir c.end.new.files c.end.ensures.lets_go c.take-copy.new.self c.take-copy.ensures.rest;
+  standing = left_standing g.D.Dir.cells c.args.parts.now c.requires.whole c.args.job c.take-copy.result (sym c.take-copy.ensures.copy) c.end.new.dir c.end.new.files c.end.ensures.lets_go c.take-copy.new.self c.take-copy.ensures.rest;
+  sourced = left_sourced g.D.Dir.cells c.args.parts.now c.requires.whole c.args.job c.take-copy.result (sym c.take-copy.ensures.copy) c.end.new.dir c.end.new.files c.end.ensures.lets_go c.take-copy.new.self c.take-copy.ensures.rest;
+  held = without_held g.D.Dir.cells c.args.parts.now c.requires.whole c.args.job c.take-copy.result (sym c.take-copy.ensures.copy) c.end.new.dir c.end.new.files c.end.ensures.lets_go;
+  fewer = λ q. omega (arith, c.end.ensures.lets_go.counts q);
+  stays = record { held = c.end.ensures.lets_go.keeps.reads };
+  appears = keeps_none c.args.parts.now.files c.end.new.files (g.D.Dir.cells c.args.parts.now.dir) (g.D.Dir.cells c.end.new.dir) c.end.ensures.lets_go.keeps;
+  later = c.end.ensures.later;
+}

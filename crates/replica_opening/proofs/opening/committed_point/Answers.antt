@@ -29,3 +29,6 @@ returns-in-Ok-read_all-clause-refused g c r fault h = c.in-Ok-read_all.ensures.r
 
 pub returns-in-Err-read_all-clause-refused : goal.returns-in-Err-read_all-clause-refused
 returns-in-Err-read_all-clause-refused g c r fault h = c.in-Err-read_all.ensures.refused r fault (subst (λ (rs : List SegRecord). IsFirstRefusedSegment (reads_of (g.D.Dir.cells c.args.dir.now)) rs r fault) (sym c.as_slice.ensures) h)
+
+pub returns-in-Err-read_all-clause-opens : goal.returns-in-Err-read_all-clause-opens
+returns-in-Err-read_all-clause-opens g c segs read = c.in-Err-read_all.ensures.opens segs (subst (λ (rs : List SegRecord). AreReaders (reads_of (g.D.Dir.cells c.args.dir.now)) rs segs) (sym c.as_slice.ensures) read)

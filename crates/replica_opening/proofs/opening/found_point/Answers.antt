@@ -1,6 +1,7 @@
-use Rattle.std.proofs.Common.{subst, ap}
+use Rattle.std.proofs.Common.{subst, sym, ap}
 use Rattle.disk_model.specs.Disk.{Cells, reads_of}
 use Rattle.replica_opening.specs.Opening.{IsRefusedAmong}
+use Rattle.replica_opening.specs.Readers.{AreReaders}
 use Rattle.replica_opening.proofs.Openings.{nothing_found, found_fault}
 use Rattle.replica_opening.proofs.Recoveries.{due_among, none_among}
 use Rattle.replica_opening.proofs.opening.found_point.Goals as goal
@@ -26,3 +27,8 @@ pub returns-in-Err-committed_point-clause-refused : goal.returns-in-Err-committe
 returns-in-Err-committed_point-clause-refused g c due h =
     let first = rw c.in-Ok-Some.field-0-is at (c.in-Ok-Some.ensures.refused due h) in
     due_among (reads_of (g.D.Dir.cells c.args.dir.now)) (reads_of (g.D.Dir.cells c.recovered.new.dir)) c.in-Ok-Some.infos.segs due c.in-Err-committed_point.fault (ap reads_of c.recovered.ensures.cells) first c.in-Err-committed_point.ensures.refused
+
+pub returns-in-Err-committed_point-clause-opens : goal.returns-in-Err-committed_point-clause-opens
+returns-in-Err-committed_point-clause-opens g c opens =
+    let some = rw c.in-Ok-Some.field-0-is at (c.in-Ok-Some.ensures.opens opens) in
+    c.in-Err-committed_point.ensures.opens some.0 (subst (λ (cells : Cells). AreReaders (reads_of cells) c.in-Ok-Some.infos.segs some.0) (sym c.recovered.ensures.cells) some.1)

@@ -1,7 +1,7 @@
 use Rattle.std.proofs.Common.{◌∙◌, arith, refl}
 use Rattle.disk_model.specs.Disk.{reads_of}
 use Rattle.replica_opening.proofs.Metas.{knows_more}
-use Rattle.replica_opening.proofs.Segments.{files_among, read_more, first_refused, there_along, still_before, refused_among, none_refused}
+use Rattle.replica_opening.proofs.Segments.{files_among, read_more, first_refused, there_along, still_before, refused_among, cut_off_among, none_refused}
 use Rattle.replica_opening.proofs.opening.read_all.Goals as goal
 
 pub read_next-requires-clause-there : goal.read_next-requires-clause-there
@@ -26,3 +26,6 @@ returns-in-Err-clause-refused g c =
 
 pub returns-clause-refused : goal.returns-clause-refused
 returns-clause-refused g c = none_refused (reads_of (g.D.Dir.cells c.args.dir.now)) c.args.records.now c.loop-record.record-index (omega arith) c.loop-record.invariant.behind
+
+pub returns-in-Err-clause-opens : goal.returns-in-Err-clause-opens
+returns-in-Err-clause-opens g c = cut_off_among (g.D.Dir.cells c.args.dir.now) (g.D.Dir.cells c.loop-record.dir) c.args.records.now c.loop-record.record-index _ c.in-Err.fault c.loop-record.invariant.cells (omega arith) c.in-Err.ensures.shown

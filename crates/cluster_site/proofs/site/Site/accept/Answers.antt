@@ -1,4 +1,4 @@
-use Rattle.std.proofs.Common.{◌+◌, ◌∙◌, ◌∷◌, refl, ap, sym, subst}
+use Rattle.std.proofs.Common.{◌≡◌, ◌+◌, ◌∙◌, ◌∷◌, refl, ap, sym, subst}
 use Rattle.std.specs.Prelude.{OnOk, OnErr, is_some}
 use Rattle.history_rules.specs.declared.entry.Event.TheVariants.{Accepted}
 use Rattle.history_rules.specs.Nodes.{accepted_count}
@@ -21,6 +21,9 @@ invariant_of-self g c =
 pub returns-in_default-clause-ok : goal.returns-in_default-clause-ok
 returns-in_default-clause-ok g c =
     subst (λ (s : SiteRun). OnOk c.accept.result (IsNow s.run c.accept.new.self (shown c.args.at (by_refusal (without_primary (printed s.run.log)) (Accepted (accepted_count (printed s.run.log) + 1) c.args.op)) ∷ s.run.log))) c.self.view_is c.accept.ensures.ok
+
+pub returns-in_default-clause-plans : goal.returns-in_default-clause-plans
+returns-in_default-clause-plans g c = subst (λ (s : SiteRun). OnOk c.accept.result (c.accept.new.self.rest.plans ≡ s.run.rest.plans)) c.self.view_is c.accept.ensures.plans
 
 pub returns-in_default-clause-rest : goal.returns-in_default-clause-rest
 returns-in_default-clause-rest g c = subst (λ (s : SiteRun). OnOk c.accept.result (KeepsRest s.run c.accept.new.self)) c.self.view_is c.accept.ensures.rest
@@ -57,6 +60,9 @@ invariant_of-self-in-Ok g c =
 pub returns-in-Ok-clause-ok : goal.returns-in-Ok-clause-ok
 returns-in-Ok-clause-ok g c =
     subst (λ (s : SiteRun). OnOk c.accept-in-Ok.result (IsNow s.run c.accept-in-Ok.new.self (shown c.args.at (by_refusal (without_primary (printed s.run.log)) (Accepted (accepted_count (printed s.run.log) + 1) c.args.op)) ∷ s.run.log))) c.self.view_is c.accept-in-Ok.ensures.ok
+
+pub returns-in-Ok-clause-plans : goal.returns-in-Ok-clause-plans
+returns-in-Ok-clause-plans g c = subst (λ (s : SiteRun). OnOk c.accept-in-Ok.result (c.accept-in-Ok.new.self.rest.plans ≡ s.run.rest.plans)) c.self.view_is c.accept-in-Ok.ensures.plans
 
 pub returns-in-Ok-clause-rest : goal.returns-in-Ok-clause-rest
 returns-in-Ok-clause-rest g c = subst (λ (s : SiteRun). OnOk c.accept-in-Ok.result (KeepsRest s.run c.accept-in-Ok.new.self)) c.self.view_is c.accept-in-Ok.ensures.rest

@@ -26,7 +26,7 @@ returns-clause-does g c = λ command copies. call_does g.D.Dir.cells g.D.Dir.pla
 
 pub returns-clause-ok : goal.returns-clause-ok
 returns-clause-ok g c =
-    subst (λ (s : SiteRun). IfOk c.copy_arrived.result (λ turn. (row : JobRow) → JobRuns s.run.log row → row.job.at ≡ c.args.at → JobTakes row.job c.args.part.name s.run c.copy_arrived.new.self turn)) c.self.view_is c.copy_arrived.ensures.ok
+    subst (λ (s : SiteRun). IfOk c.copy_arrived.result (λ turn. (row : JobRow) → JobRuns s.run.log row → row.job.at ≡ c.args.at → JobTakes row.job c.args.file.now s.run c.copy_arrived.new.self turn)) c.self.view_is c.copy_arrived.ensures.ok
 
 pub returns-clause-stops : goal.returns-clause-stops
 returns-clause-stops g c =

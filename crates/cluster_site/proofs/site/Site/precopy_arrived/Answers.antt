@@ -16,7 +16,7 @@ returns-clause-does g c = task_does g.D.Dir.cells g.D.Dir.plans c.self.inside.cl
 
 pub returns-clause-ok : goal.returns-clause-ok
 returns-clause-ok g c =
-    subst (λ (s : SiteRun). IfOk c.precopy_arrived.result (PartTurns c.args.task.now.line c.args.task.now.seg c.args.task.now.by c.args.copy.node c.args.copy.job s.run c.precopy_arrived.new.self)) c.self.view_is c.precopy_arrived.ensures.ok
+    subst (λ (s : SiteRun). IfOk c.precopy_arrived.result (PartTurns c.args.task.now.line c.args.task.now.seg c.args.task.now.by c.args.copy.node c.args.copy.job c.args.file.now.fate s.run c.precopy_arrived.new.self)) c.self.view_is c.precopy_arrived.ensures.ok
 
 pub returns-clause-err : goal.returns-clause-err
 returns-clause-err g c =

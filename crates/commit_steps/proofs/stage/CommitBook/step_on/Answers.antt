@@ -1,12 +1,15 @@
-use Rattle.std.proofs.Common.{Option, Some, sym, ap, subst, ◌∙◌, max}
+use Rattle.std.proofs.Common.{Option, Some, Err, sym, ap, subst, ◌∙◌, max}
+use Rattle.std.proofs.lemmas.Result.{err_from_is_err_and}
 use Rattle.std.specs.Prelude.{IfSome}
 use Rattle.file_deleter.specs.Holdings.{Holdings}
+use Rattle.file_deleter.specs.Removals.{directory_of}
 use Rattle.commit_steps.specs.declared.stage.Stage.{Stage}
 use Rattle.commit_steps.specs.declared.stage.Progress.{Progress}
 use Rattle.commit_steps.specs.declared.stage.CommitBook.{CommitBook}
 use Rattle.commit_steps.specs.Commits.{ImagesHave}
 use Rattle.commit_steps.specs.Book.{commit_of, is_last_step, Leads, IsBookStep}
 use Rattle.commit_steps.proofs.Books.{step_refused, going, going_not_last, made, made_images}
+use Rattle.commit_steps.proofs.StepCounts.{uncounted, made_last, ends_commit}
 use Rattle.commit_steps.proofs.stage.CommitBook.step_on.Goals as goal
 
 pub returns-in_err-make_room-clause-step : goal.returns-in_err-make_room-clause-step
@@ -42,3 +45,14 @@ returns-in-Err-clause-step g c =
     (sym c.in-Err.ensures.advances.err.0)
     (going (g.D.Dir.cells c.args.dir.now) (g.D.Dir.cells c.advance.new.dir) c.args.files.now c.make_room.new.self c.advance.new.files (max c.args.files.now.room 1) c.args.self.now c.in-Some.stage
     c.in_ok-make_room.ensures.ok (sym c.in-Some.ensures.value) c.requires.sound c.in-Some.stage c.in-Err.ensures.advances.err.1 c.requires.counted)
+
+pub returns-in_err-make_room-clause-calls : goal.returns-in_err-make_room-clause-calls
+returns-in_err-make_room-clause-calls g c =
+    let p = err_from_is_err_and c.from_residual.result c.from_residual.ensures.1 in rw (p.1 ∙ ap Err p.2) (uncounted (g.D.Dir.plans c.args.dir.now))
+
+pub returns-in-Ok-Made-clause-calls : goal.returns-in-Ok-Made-clause-calls
+returns-in-Ok-Made-clause-calls g c =
+    let last = c.in-Ok-Made.ensures.last (made_last c.in-Some.stage c.in-Ok-Made.commit (sym c.in-Ok-Made.field-0-is ∙ c.in-Ok-Made.ensures.advances.ok.0)) in
+    ends_commit c.args.self.now.last c.args.files.now c.make_room.new.self c.advance.new.files c.make.new.files (max c.args.files.now.room 1)
+    (directory_of g.D.Dir.cells g.D.Dir.plans g.D.Dir.faults c.args.dir.now) (directory_of g.D.Dir.cells g.D.Dir.plans g.D.Dir.faults c.advance.new.dir) (directory_of g.D.Dir.cells g.D.Dir.plans g.D.Dir.faults c.make.new.dir)
+    c.in_ok-make_room.ensures.ok last.0 last.1 c.in-Ok-Made.ensures.plans c.make.ensures.removals

@@ -6,6 +6,6 @@ use Rattle.disk_memory.proofs.slots.Slots.rename.Goals as goal
 
 pub invariant_of-self : goal.invariant_of-self
 invariant_of-self c =
-    noted_on_both c.self.inside.changed c.note-2.new.changed c.self.inside.by_name.entries c.rename.new.slots.entries c.self.invariant (λ q e. c.note-2.ensures.kept q (c.note.ensures.kept q e)) c.rename.result c.args.from.now c.args.to.now
+    noted_on_both c.self.inside.changed c.note-has_slot.new.changed c.self.inside.by_name.entries c.rename.new.slots.entries c.self.invariant (λ q e. c.note-has_slot.ensures.kept q (c.note.ensures.kept q e)) c.rename.result c.args.from.now c.args.to.now
     (set_to (held_in c.self.inside.by_name.entries c.args.from.now).state (held_in c.self.inside.by_name.entries c.args.to.now)) (set_to Absent (held_in c.self.inside.by_name.entries c.args.from.now))
-    (c.note-2.ensures.kept c.args.from.now c.note.ensures.here) c.note-2.ensures.here c.rename.ensures.ok c.rename.ensures.err
+    (c.note-has_slot.ensures.kept c.args.from.now c.note.ensures.here) c.note-has_slot.ensures.here c.rename.ensures.ok c.rename.ensures.err

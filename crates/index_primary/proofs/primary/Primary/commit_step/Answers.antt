@@ -10,3 +10,6 @@ returns-clause-whole g c = invariant_of-self g c
 pub returns-clause-appears : goal.returns-clause-appears
 returns-clause-appears g c = rw (← c.self.view_is)
     (commit_appears g.D.Dir.cells c.self.inside.parts c.self.invariant c.step.result c.step.new.dir c.step.new.files c.step.new.self c.step.ensures.step.shifts c.step.ensures.ok c.step.ensures.err)
+
+pub returns-clause-calls : goal.returns-clause-calls
+returns-clause-calls g c = rw (← c.self.view_is) c.step.ensures.calls

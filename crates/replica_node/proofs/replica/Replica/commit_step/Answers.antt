@@ -38,3 +38,6 @@ returns-clause-appears g c = rw (← c.self.view_is)
     (either c.step.result c.step.ensures.ok c.step.ensures.err
     (λ ok. step_appears (g.D.Dir.cells c.self.inside.parts.dir) (g.D.Dir.cells c.step.new.dir) c.self.inside.parts.files c.step.new.files (replica_names c.self.inside.parts) c.self.inside.parts.commits c.step.new.self c.self.invariant.node c.step.ensures.step.shifts ok)
     (λ err. stop_appears (g.D.Dir.cells c.self.inside.parts.dir) (g.D.Dir.cells c.step.new.dir) c.self.inside.parts.files c.step.new.files (replica_names c.self.inside.parts) c.self.inside.parts.commits c.step.new.self c.self.invariant.node c.step.ensures.step.shifts err))
+
+pub returns-clause-calls : goal.returns-clause-calls
+returns-clause-calls g c = rw (← c.self.view_is) c.step.ensures.calls

@@ -75,7 +75,7 @@ returns-in-Err-settle_copy-clause-memory g c = rw (← c.self.view_is)
 pub returns-in-Err-clause-held : goal.returns-in-Err-clause-held
 returns-in-Err-clause-held g c = rw (← c.self.view_is)
     (let p = c.self.inside.parts in
-    holds_then p c.place_copy.new.parts c.give_up.new.parts (copy_at c.args.job p.copies.running) c.place_copy.ensures.held c.give_up.ensures.fewer)
+    holds_then p c.place_copy.new.parts c.give_up.new.parts (copy_at c.args.job p.copies.running) c.place_copy.ensures.held c.give_up.ensures.back.fewer)
 
 pub returns-in-Err-clause-failed_ends : goal.returns-in-Err-clause-failed_ends
 returns-in-Err-clause-failed_ends g c = rw (← c.self.view_is)

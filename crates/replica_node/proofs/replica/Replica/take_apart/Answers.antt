@@ -3,17 +3,17 @@ use Rattle.replica_node.proofs.Apart.{node_apart, segs_stand, bytes_apart}
 use Rattle.replica_node.proofs.replica.Replica.take_apart.Goals as goal
 
 pub returns-clause-node : goal.returns-clause-node
-returns-clause-node g c = node_apart g.D.Dir.cells c.end_copies.new.parts c.end_copies.ensures.whole (ap (λ p. p.job) c.end_copies.ensures.others ∙ c.end_job.ensures.job) c.end_copies.ensures.copies
+returns-clause-node g c = node_apart g.D.Dir.cells c.end_copies.new.parts c.end_copies.ensures.back.whole (ap (λ p. p.job) c.end_copies.ensures.others ∙ c.end_job.ensures.job) c.end_copies.ensures.copies
 
 pub returns-clause-standing : goal.returns-clause-standing
 returns-clause-standing g c = rw (← c.self.view_is)
     (λ h.
-    (c.end_copies.ensures.standing (c.end_job.ensures.standing h)).commits)
+    (c.end_copies.ensures.back.standing (c.end_job.ensures.back.standing h)).commits)
 
 pub returns-clause-stands : goal.returns-clause-stands
 returns-clause-stands g c = rw (← c.self.view_is)
-    (segs_stand g.D.Dir.cells c.self.inside.parts c.end_copies.new.parts c.self.invariant c.end_copies.ensures.whole (ap (λ p. p.infos) c.end_copies.ensures.others ∙ ap (λ p. p.infos) c.end_job.ensures.others)
-    (bytes_apart c.self.inside.parts.files c.end_job.new.parts.files c.end_copies.new.parts.files _ _ _ c.end_job.ensures.stays c.end_copies.ensures.stays c.end_copies.ensures.fewer))
+    (segs_stand g.D.Dir.cells c.self.inside.parts c.end_copies.new.parts c.self.invariant c.end_copies.ensures.back.whole (ap (λ p. p.infos) c.end_copies.ensures.others ∙ ap (λ p. p.infos) c.end_job.ensures.others)
+    (bytes_apart c.self.inside.parts.files c.end_job.new.parts.files c.end_copies.new.parts.files _ _ _ c.end_job.ensures.back.stays c.end_copies.ensures.back.stays c.end_copies.ensures.back.fewer))
 
 pub returns-clause-same : goal.returns-clause-same
 returns-clause-same g c = rw (← c.self.view_is)
@@ -27,17 +27,17 @@ returns-clause-same g c = rw (← c.self.view_is)
 pub returns-clause-sourced : goal.returns-clause-sourced
 returns-clause-sourced g c = rw (← c.self.view_is)
     (λ source h.
-    (c.end_copies.ensures.sourced source (c.end_job.ensures.sourced source h)).held)
+    (c.end_copies.ensures.back.sourced source (c.end_job.ensures.back.sourced source h)).held)
 
 pub returns-clause-fewer : goal.returns-clause-fewer
 returns-clause-fewer g c = rw (← c.self.view_is)
     (λ q.
-    omega (arith, c.end_job.ensures.fewer q, c.end_copies.ensures.fewer q))
+    omega (arith, c.end_job.ensures.back.fewer q, c.end_copies.ensures.back.fewer q))
 
 pub returns-clause-stays : goal.returns-clause-stays
 returns-clause-stays g c = rw (← c.self.view_is)
-    (bytes_apart c.self.inside.parts.files c.end_job.new.parts.files c.end_copies.new.parts.files _ _ _ c.end_job.ensures.stays c.end_copies.ensures.stays c.end_copies.ensures.fewer)
+    (bytes_apart c.self.inside.parts.files c.end_job.new.parts.files c.end_copies.new.parts.files _ _ _ c.end_job.ensures.back.stays c.end_copies.ensures.back.stays c.end_copies.ensures.back.fewer)
 
 pub returns-clause-appears : goal.returns-clause-appears
 returns-clause-appears g c = rw (← c.self.view_is)
-    (record { each = λ q none. c.end_copies.ensures.appears.each q (c.end_job.ensures.appears.each q none) })
+    (record { each = λ q none. c.end_copies.ensures.back.appears.each q (c.end_job.ensures.back.appears.each q none) })

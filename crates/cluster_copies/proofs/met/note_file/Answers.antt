@@ -1,0 +1,33 @@
+use Rattle.std.proofs.Common.{◌≡◌, ◌∙◌, ◌∷◌, ℕ, Some, false, true, ap, map, subst, sym}
+use Rattle.history_rules.specs.Lines.{is_answered}
+use Rattle.history_rules.specs.Nodes.{is_running}
+use Rattle.history_rules.specs.Rules.{fetches_at}
+use Rattle.history_book.specs.Log.{Log, printed, kept}
+use Rattle.history_book.specs.declared.inner.Inner.TheVariants.{FileOut}
+use Rattle.merge_tasks.specs.Fates.{fate_due}
+use Rattle.cluster_state.specs.DueFaults.{with_due}
+use Rattle.cluster_state.specs.Met.{met_in}
+use Rattle.cluster_copies.proofs.MetLines.{met_words}
+use Rattle.cluster_copies.proofs.met.note_file.Goals as goal
+
+pub show_due-fate-requires-clause-works : goal.show_due-fate-requires-clause-works
+show_due-fate-requires-clause-works g c =
+    let w = met_words c.args.row.job.at c.args.row.job.at c.args.before.now (map (met_in g.D.FaultDir.planned) c.args.places.now.items) c.args.ledger.now.log in
+    subst (λ (l : Log). is_answered c.args.row.job.at (printed l) ≡ false) (sym c.show_met.ensures.log) (w.answered ∙ c.requires.unanswered)
+
+pub show_due-fate-requires-clause-fetched : goal.show_due-fate-requires-clause-fetched
+show_due-fate-requires-clause-fetched g c =
+    subst (λ (z : ℕ × Log). fetches_at z.0 c.args.row.job.at (printed z.1) c.args.row.job.node.0 ≡ true) (λ i. (sym c.show_met.ensures.nodes i, sym c.show_met.ensures.log i)) c.requires.fetched
+
+pub show_due-fate-requires-clause-alive : goal.show_due-fate-requires-clause-alive
+show_due-fate-requires-clause-alive g c =
+    let w = met_words c.args.row.job.at c.args.row.job.at c.args.before.now (map (met_in g.D.FaultDir.planned) c.args.places.now.items) c.args.ledger.now.log in
+    subst (λ (l : Log). is_running c.args.row.job.node.0 (printed l) ≡ true) (sym c.show_met.ensures.log) (w.running c.args.row.job.node.0 ∙ c.requires.alive)
+
+pub returns-clause-fate : goal.returns-clause-fate
+returns-clause-fate g c = c.show_due-fate.ensures.fate ∙ ap (fate_due c.args.row.job.node.0) c.show_met.ensures.log
+
+pub returns-clause-log : goal.returns-clause-log
+returns-clause-log g c =
+    c.keep.ensures.log ∙ ap (λ (l : Log). kept (FileOut c.args.row.job.at.line c.args.row.job.node c.args.row.job.number c.args.name c.args.source c.show_due-fate.result (Some c.args.row.job.at)) ∷ l)
+    (c.show_due-fate.ensures.log ∙ ap (with_due false c.args.row.job.at c.args.row.job.node.0) c.show_met.ensures.log)

@@ -1,0 +1,7 @@
+mod Due
+mod Empty
+mod Listing
+mod Running
+mod Seeing
+mod Sources
+mod Unmade

@@ -1,0 +1,18 @@
+//! Tests of a primary and of replicas over a directory in memory.
+#![tactic(auto)]
+
+#[cfg(test)]
+mod bench;
+#[cfg(test)]
+mod calls;
+#[cfg(test)]
+mod files;
+#[cfg(test)]
+mod finishing;
+#[cfg(test)]
+mod jobs;
+#[cfg(test)]
+mod openings;
+mod seen;
+#[cfg(test)]
+mod tables;

@@ -1,2 +1,0 @@
-mod Reigns
-mod Steps

@@ -1,5 +1,0 @@
-use Rattle.primary_tests.proofs.Empty.{empty_table}
-use Rattle.primary_tests.proofs.tables.empty_dir.Goals as goal
-
-pub returns : goal.returns
-returns c = empty_table _ c.in_ok-dir.ensures.table

@@ -1,4 +1,0 @@
-mod Due
-mod Listing
-mod Running
-mod Sources
