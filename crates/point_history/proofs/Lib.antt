@@ -1,5 +1,3 @@
-mod AskedLaws
-mod KnownLaws
-pub mod WalkLemmas
 mod HitLemmas
 mod ListingLemmas
+mod RuleLaws

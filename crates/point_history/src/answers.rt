@@ -7,12 +7,14 @@ ghost use Rattle.history_rules.specs.Lines.{start_entry};
 ghost use Rattle.history_rules.specs.Points.{documents_at};
 ghost use Rattle.history_rules.specs.Rules.{MayAnswer};
 ghost use Rattle.history_rules.specs.Started.{StartedSearch};
-ghost use Rattle.point_history.specs.Asked.{IsAsked};
+ghost use Rattle.known_past.specs.Known.{IsKnown};
+ghost use Rattle.history_points.specs.AskedPoints.{IsAskedPoint};
 
-use crate::asked::Asked;
 use documents::{Answer, Hit, Query, scan_if_told};
-use history_facts::{is_node, node_survives, start_entry};
+use history_facts::is_node;
+use history_points::AskedPoint;
 use history_rules::{Entry, Event};
+use known_past::KnownPast;
 use nrt_base::{At, NoMemory, NodeNo, TicketNo, Version};
 use std::alloc::Global;
 
@@ -28,10 +30,18 @@ fn same_answer(a: &Answer, b: &Answer) -> bool
     a.total == b.total && same_hits(a.hits.as_slice(), b.hits.as_slice())
 }
 
-fn started_search(n: NodeNo, t: TicketNo, v: Version, at: At, entries: &[Entry]) -> bool
+fn started_search(
+    n: NodeNo,
+    t: TicketNo,
+    v: Version,
+    at: At,
+    known: &KnownPast,
+    entries: &[Entry],
+) -> bool
+    requires known { IsKnown (reverse entries.now) known.now }
     ensures { IsTrue result ↔ StartedSearch n t v (start_entry at (reverse entries.now)) }
 {
-    match start_entry(at, entries) {
+    match known.start_entry(at, entries) {
         Some(Event::Opened { n: m, t: u, v: w }) | Some(Event::Asking { n: m, t: u, v: w }) => {
             m.0 == n.0 && u.0 == t.0 && w.0 == v.0
         }
@@ -56,16 +66,16 @@ fn read_first_rank(answer: &Answer)
 fn is_right(
     alloc: Global,
     entries: &[Entry],
-    asked: &mut Asked,
+    asked: &mut AskedPoint,
     v: Version,
     query: &Query,
     answer: &Answer,
 ) -> Result<bool, NoMemory>
     requires few { accepted_count (reverse entries.now) < 2 ^ 32 }
-    requires asked { IsAsked (reverse entries.now) asked.old }
+    requires asked { IsAskedPoint (reverse entries.now) asked.old }
     ensures right { IfOk result (λ right.
         IsTrue right ↔ (answer.now ≡ scan_of (documents_at (reverse entries.now) v.0) query.now)) }
-    ensures asked { OnOk result (IsAsked (reverse entries.now) asked.new) }
+    ensures asked { OnOk result (IsAskedPoint (reverse entries.now) asked.new) }
 {
     let docs = asked.documents(alloc, entries, v)?;
     match scan_if_told(alloc, docs.as_slice(), query)? {
@@ -80,8 +90,9 @@ fn is_right(
 pub(crate) fn may_answer(
     alloc: Global,
     nodes: u8,
+    known: &KnownPast,
     entries: &[Entry],
-    asked: &mut Asked,
+    asked: &mut AskedPoint,
     at: At,
     n: NodeNo,
     t: TicketNo,
@@ -89,15 +100,16 @@ pub(crate) fn may_answer(
     query: &Query,
     answer: &Answer,
 ) -> Result<bool, NoMemory>
+    requires known { IsKnown (reverse entries.now) known.now }
     requires few { accepted_count (reverse entries.now) < 2 ^ 32 }
-    requires asked { IsAsked (reverse entries.now) asked.old }
+    requires asked { IsAskedPoint (reverse entries.now) asked.old }
     ensures rule { IfOk result (λ may.
         IsTrue may ↔ MayAnswer nodes (reverse entries.now) at n t v query.now answer.now) }
-    ensures asked { OnOk result (IsAsked (reverse entries.now) asked.new) }
+    ensures asked { OnOk result (IsAskedPoint (reverse entries.now) asked.new) }
 {
     if !is_node(nodes, n)
-        || !started_search(n, t, v, at, entries)
-        || !node_survives(n, at, entries)
+        || !started_search(n, t, v, at, known, entries)
+        || !known.node_survives(n, at, entries)
     {
         return Ok(false);
     }

@@ -5,13 +5,12 @@ ghost use Rattle.std.specs.Option.{option_copied};
 ghost use Rattle.history_rules.specs.Nodes.{is_running};
 ghost use Rattle.history_rules.specs.Lines.{last_of_line, is_answered};
 ghost use Rattle.history_rules.specs.Rules.{copies_to, is_merging, is_unbegun, fetches_at, MayFault};
+ghost use Rattle.known_past.specs.Known.{IsKnown};
 
 use crate::refusals::is_node_of;
-use history_facts::{
-    before_start, is_answered, is_at, is_node, is_of_disk, is_planned, is_running, last_of_line,
-    primary_of, start_entry,
-};
+use history_facts::{is_at, is_node, is_of_disk, is_running, primary_of};
 use history_rules::{Entry, Event, FaultKind};
+use known_past::KnownPast;
 use nrt_base::{At, NodeNo};
 
 /// Whether a line started as a copy or a settle after these entries, and this is a node of it.
@@ -37,25 +36,27 @@ fn is_merging(last: Option<&Event>) -> bool
 }
 
 /// Whether files are copied to the node for a line: by a copy or a settle of it, or by a merge.
-fn fetches_at(nodes: u8, at: At, entries: &[Entry], n: NodeNo) -> bool
+fn fetches_at(nodes: u8, at: At, known: &KnownPast, entries: &[Entry], n: NodeNo) -> bool
+    requires known { IsKnown (reverse entries.now) known.now }
     ensures { result ≡ fetches_at nodes at (reverse entries.now) n.0 }
 {
     copies_to(
         nodes,
-        before_start(at, entries),
-        start_entry(at, entries),
+        known.before_start(at, entries),
+        known.start_entry(at, entries),
         n,
-    ) || (is_merging(last_of_line(at, entries))
-        && is_running(n, entries)
-        && !is_at(primary_of(entries).node, n))
+    ) || (is_merging(known.last_of_line(at, entries))
+        && known.is_running(n, entries)
+        && !is_at(known.primary(entries), n))
 }
 
 /// Whether a line may meet faults: it has no reply yet, or it is a merge.
-fn is_at_work(at: At, entries: &[Entry]) -> bool
+fn is_at_work(at: At, known: &KnownPast, entries: &[Entry]) -> bool
+    requires known { IsKnown (reverse entries.now) known.now }
     ensures { IsTrue result ↔ ((is_answered at (reverse entries.now) ≡ false) ⊎
         (is_merging (last_of_line at (reverse entries.now)) ≡ true)) }
 {
-    !is_answered(at, entries) || is_merging(last_of_line(at, entries))
+    !known.is_answered(at, entries) || is_merging(known.last_of_line(at, entries))
 }
 
 fn is_unbegun(last: Option<&Event>) -> bool
@@ -68,19 +69,28 @@ fn is_unbegun(last: Option<&Event>) -> bool
 }
 
 /// Whether a node runs, or the line has no entry but faults.
-fn is_alive(n: NodeNo, at: At, entries: &[Entry]) -> bool
+fn is_alive(n: NodeNo, at: At, known: &KnownPast, entries: &[Entry]) -> bool
+    requires known { IsKnown (reverse entries.now) known.now }
     ensures { result ≡ (is_running n.0 (reverse entries.now)
         || is_unbegun (last_of_line at (reverse entries.now))) }
 {
-    is_running(n, entries) || is_unbegun(last_of_line(at, entries))
+    known.is_running(n, entries) || is_unbegun(known.last_of_line(at, entries))
 }
 
-pub(crate) fn may_fault(nodes: u8, entries: &[Entry], at: At, n: NodeNo, kind: FaultKind) -> bool
+pub(crate) fn may_fault(
+    nodes: u8,
+    known: &KnownPast,
+    entries: &[Entry],
+    at: At,
+    n: NodeNo,
+    kind: FaultKind,
+) -> bool
+    requires known { IsKnown (reverse entries.now) known.now }
     ensures { IsTrue result ↔ MayFault nodes (reverse entries.now) at n kind }
 {
     is_node(nodes, n)
-        && is_planned(n, kind, entries)
-        && is_at_work(at, entries)
-        && (is_of_disk(kind) || fetches_at(nodes, at, entries, n))
-        && is_alive(n, at, entries)
+        && known.is_planned(n, kind, entries)
+        && is_at_work(at, known, entries)
+        && (is_of_disk(kind) || fetches_at(nodes, at, known, entries, n))
+        && is_alive(n, at, known, entries)
 }

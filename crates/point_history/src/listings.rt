@@ -5,17 +5,15 @@ ghost use Rattle.std.specs.List.{All, list_any};
 ghost use Rattle.std.specs.Ordering.{nat_cmp};
 ghost use Rattle.std.specs.Cmp.Lexicographic.{slice_cmp};
 ghost use Rattle.file_names.specs.Names.{is_commit_name, is_pending_name, is_documents_name, is_less, is_ascending};
-ghost use Rattle.history_facts.specs.Generations.{ShowsDrawn};
 ghost use Rattle.history_rules.specs.Rules.{MayHaveName, MayListFiles};
 ghost use Rattle.history_rules.specs.Points.{has_documents};
 ghost use Rattle.history_facts.specs.Openings.{opens_by, HoldsNone};
+ghost use Rattle.known_past.specs.Known.{IsKnown};
 
 use file_names::{FileName, commit_of, pending_of};
-use history_facts::{
-    Drawn, documents_at, has_committed, has_met_fault, is_drawn_file, is_drawn_temporary, is_node,
-    is_running, open_ticket, version_of,
-};
+use history_facts::{documents_at, is_drawn_file, is_drawn_temporary, is_node, open_ticket};
 use history_rules::{Entry, Event};
+use known_past::KnownPast;
 use nrt_base::{At, NoMemory, NodeNo, Version};
 use std::alloc::Global;
 use std::cmp::Ordering;
@@ -71,23 +69,23 @@ fn is_ascending(names: &[FileName]) -> bool
 }
 
 /// Whether a file may have this name.
-fn may_have_name(entries: &[Entry], drawn: &Drawn, name: &FileName) -> bool
-    requires shown { ShowsDrawn (reverse entries.now) drawn.now }
+fn may_have_name(entries: &[Entry], known: &KnownPast, name: &FileName) -> bool
+    requires known { IsKnown (reverse entries.now) known.now }
     ensures { IsTrue result ↔ MayHaveName (reverse entries.now) name.now }
 {
     is_commit_name(name)
         || is_pending_name(name)
-        || is_drawn_file(drawn, name)
-        || is_drawn_temporary(drawn, name)
+        || is_drawn_file(&known.drawn, name)
+        || is_drawn_temporary(&known.drawn, name)
 }
 
 /// Whether files may have these names.
-fn may_have_names(entries: &[Entry], drawn: &Drawn, names: &[FileName]) -> bool
-    requires shown { ShowsDrawn (reverse entries.now) drawn.now }
+fn may_have_names(entries: &[Entry], known: &KnownPast, names: &[FileName]) -> bool
+    requires known { IsKnown (reverse entries.now) known.now }
     ensures { IsTrue result ↔ All (MayHaveName (reverse entries.now)) names.now }
 {
     for name in names {
-        if !may_have_name(entries, drawn, name) {
+        if !may_have_name(entries, known, name) {
             return false;
         }
     }
@@ -133,29 +131,29 @@ fn holds_documents(alloc: Global, n: NodeNo, entries: &[Entry]) -> Result<bool, 
 pub(crate) fn may_list_files(
     alloc: Global,
     nodes: u8,
+    known: &KnownPast,
     entries: &[Entry],
-    drawn: &Drawn,
     at: At,
     n: NodeNo,
     names: &[FileName],
 ) -> Result<bool, NoMemory>
-    requires shown { ShowsDrawn (reverse entries.now) drawn.now }
+    requires known { IsKnown (reverse entries.now) known.now }
     ensures { IfOk result (λ may. IsTrue may ↔ MayListFiles nodes
         (reverse entries.now) at n names.now) }
 {
-    if !is_node(nodes, n) || !is_running(n, entries) || has_met_fault(at, entries) {
+    if !is_node(nodes, n) || !known.is_running(n, entries) || known.has_met_fault(at, entries) {
         return Ok(false);
     }
-    if !is_ascending(names) || !may_have_names(entries, drawn, names) {
+    if !is_ascending(names) || !may_have_names(entries, known, names) {
         return Ok(false);
     }
-    if has_committed(n, entries) && !has_commit_name(names) {
+    if known.has_committed(n, entries) && !has_commit_name(names) {
         return Ok(false);
     }
     if has_documents_name(names) {
         return Ok(true);
     }
-    if has_documents(alloc, entries, Version(version_of(n, entries)))? {
+    if has_documents(alloc, entries, Version(known.version_of(n, entries)))? {
         return Ok(false);
     }
     Ok(!holds_documents(alloc, n, entries)?)

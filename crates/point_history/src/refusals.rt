@@ -5,18 +5,18 @@ ghost use Rattle.history_rules.specs.declared.cause.FaultKind.TheVariants.{Link,
 ghost use Rattle.history_rules.specs.Commits.{is_disk_fault};
 ghost use Rattle.history_rules.specs.Faults.{same_kind, has_fault, has_met_fault, has_damage, fails_now};
 ghost use Rattle.history_rules.specs.Points.{IsDrawnFile};
-ghost use Rattle.history_facts.specs.Generations.{ShowsDrawn};
+ghost use Rattle.known_past.specs.Known.{IsKnown};
 ghost use Rattle.history_rules.specs.Lines.{start_entry};
 ghost use Rattle.history_rules.specs.Rules.{has_disk_fault, MayCancel, MayBreakOff, MayRefuse, MayRefuseLine};
 ghost use Rattle.history_rules.specs.Started.{is_node_of, is_source_of, is_lost, is_above, is_copied_beside, is_settled_beside, is_copy, is_loss};
 
 use file_names::FileName;
 use history_facts::{
-    Drawn, before_start, crashes, fails_now, has_met_fault, has_switched, is_answered, is_at,
-    is_disk_fault, is_drawn_file, is_of_disk, is_point, is_running, is_start, primary_of, same_at,
-    same_kind, start_entry,
+    crashes, fails_now, has_switched, is_answered, is_at, is_disk_fault, is_drawn_file, is_of_disk,
+    is_point, is_running, is_start, primary_of, same_at, same_kind,
 };
 use history_rules::{Cause, Entry, Event, FaultKind};
+use known_past::KnownPast;
 use nrt_base::{At, NodeNo, Version};
 
 /// Whether a node is one of a line that started with this event after these entries.
@@ -216,36 +216,36 @@ fn may_cancel(
 fn may_be_damaged(
     nodes: u8,
     entries: &[Entry],
-    drawn: &Drawn,
+    known: &KnownPast,
     at: At,
     start: &[Entry],
     begun: &Event,
     name: &FileName,
 ) -> bool
-    requires shown { ShowsDrawn (reverse entries.now) drawn.now }
+    requires known { IsKnown (reverse entries.now) known.now }
     ensures { IsTrue result ↔ ((has_damage (is_node_of nodes (reverse start.now) begun.now) at
         (reverse entries.now) ≡ true) × IsDrawnFile (reverse entries.now) name.now) }
 {
-    has_damage(nodes, start, begun, at, entries) && is_drawn_file(drawn, name)
+    has_damage(nodes, start, begun, at, entries) && is_drawn_file(&known.drawn, name)
 }
 
 fn may_break_off(
     nodes: u8,
     entries: &[Entry],
-    drawn: &Drawn,
+    known: &KnownPast,
     at: At,
     start: &[Entry],
     begun: &Event,
     cause: &Cause,
 ) -> bool
-    requires shown { ShowsDrawn (reverse entries.now) drawn.now }
+    requires known { IsKnown (reverse entries.now) known.now }
     ensures { IsTrue result ↔ MayBreakOff nodes (reverse entries.now) at
         (reverse start.now) begun.now cause.now }
 {
     match cause {
         Cause::Cancelled(v) => may_cancel(nodes, entries, at, start, begun, *v),
         Cause::LinkFault => has_fault_at_node(nodes, start, begun, FaultKind::Link, at, entries),
-        Cause::Damaged(name) => may_be_damaged(nodes, entries, drawn, at, start, begun, name),
+        Cause::Damaged(name) => may_be_damaged(nodes, entries, known, at, start, begun, name),
         Cause::DiskFault => {
             has_disk_fault(nodes, start, begun, at, entries) && fails_now(at, entries)
         }
@@ -274,13 +274,13 @@ fn is_copy(begun: &Event) -> bool
 fn may_refuse(
     nodes: u8,
     entries: &[Entry],
-    drawn: &Drawn,
+    known: &KnownPast,
     at: At,
     start: &[Entry],
     begun: &Event,
     cause: &Cause,
 ) -> bool
-    requires shown { ShowsDrawn (reverse entries.now) drawn.now }
+    requires known { IsKnown (reverse entries.now) known.now }
     ensures { IsTrue result ↔ MayRefuse nodes (reverse entries.now) at
         (reverse start.now) begun.now cause.now }
 {
@@ -290,31 +290,32 @@ fn may_refuse(
     if is_copy(begun) && has_switched(at, entries) {
         return false;
     }
-    is_loss(cause) || may_break_off(nodes, entries, drawn, at, start, begun, cause)
+    is_loss(cause) || may_break_off(nodes, entries, known, at, start, begun, cause)
 }
 
-fn may_refuse_at_once(entries: &[Entry], at: At, cause: &Cause) -> bool
+fn may_refuse_at_once(known: &KnownPast, entries: &[Entry], at: At, cause: &Cause) -> bool
+    requires known { IsKnown (reverse entries.now) known.now }
     ensures { IsTrue result ↔ (is_disk_fault cause.now ≡ has_met_fault at (reverse entries.now)) }
 {
-    is_disk_fault(cause) == has_met_fault(at, entries)
+    is_disk_fault(cause) == known.has_met_fault(at, entries)
 }
 
 pub(crate) fn may_refuse_line(
     nodes: u8,
+    known: &KnownPast,
     entries: &[Entry],
-    drawn: &Drawn,
     at: At,
     cause: &Cause,
 ) -> bool
-    requires shown { ShowsDrawn (reverse entries.now) drawn.now }
+    requires known { IsKnown (reverse entries.now) known.now }
     ensures { IsTrue result ↔ MayRefuseLine nodes (reverse entries.now) at
         (start_entry at (reverse entries.now)) cause.now }
 {
-    match start_entry(at, entries) {
+    match known.start_entry(at, entries) {
         Some(begun) => {
-            let start = before_start(at, entries);
-            may_refuse(nodes, entries, drawn, at, start, begun, cause)
+            let start = known.before_start(at, entries);
+            may_refuse(nodes, entries, known, at, start, begun, cause)
         }
-        None => may_refuse_at_once(entries, at, cause),
+        None => may_refuse_at_once(known, entries, at, cause),
     }
 }

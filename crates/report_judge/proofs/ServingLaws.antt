@@ -1,6 +1,5 @@
 -- Entries that fit: what they are asked for by, and that one text has one such entry.
 use Rattle.std.proofs.Common.{◌≡◌, ℕ, Bool, true, false, ◌||◌, List, [], ◌∷◌, Option, Some, None, Result, Ok, Err, IfOk, refl, sym, ap, subst, ◌∙◌, ◌↔◌}
-use Rattle.std.specs.Option.{is_some}
 use Rattle.std.proofs.lemmas.Bool.{false≢true}
 use Rattle.std.proofs.lemmas.Option.{none-some}
 use Rattle.nrt_base.specs.declared.numbers.At.{At}
@@ -29,7 +28,7 @@ use Rattle.script_serving.specs.Serves.{Begins, First, Suits, SuitsFault, FitsTu
 use Rattle.serving_laws.proofs.Unprinted.{OpOf, QueryOf, MostOf, OfCommand, Unprinted, fits_unprinted, one_place}
 use Rattle.report_judge.specs.Judgements.{FitsNext}
 use Rattle.report_judge.specs.Places.{line_numbered, place_told, command_told}
-use Rattle.point_history.specs.Known.{is_fault}
+use Rattle.known_past.specs.Lines.{is_fault}
 use Rattle.report_judge.specs.Serving.{is_merge}
 use Rattle.report_judge.specs.Walks.{IsEntryTold}
 use Rattle.report_judge.proofs.PlaceLaws.{numbered_is, none_numbered, stands_there, lane_command}
@@ -85,11 +84,6 @@ suits_in_turn lines past at command e other early (Ok is) h =
     let turn = turn_suits lines past at command e other in
     (λ k. turn.1 (h.0 k, early), λ k. h.1 (turn.0 k).0)
 suits_in_turn lines past at command e other early (Err fault) h = h
-
--- a line that has not begun has no newest entry
-pub nothing_newest : (last : Option Event) → false ≡ is_some last → None ≡ last
-nothing_newest None none = refl
-nothing_newest (Some e) none = absurd (false≢true none)
 
 pub merge_fault_is : (command : LineCommand) (e : Event) → is_merge command ≡ true → is_fault e ≡ true → is_merge_fault (Some command) e ≡ true
 merge_fault_is (Merge factor) (Met n kind) is fault = refl

@@ -5,7 +5,7 @@ use Rattle.nrt_base.specs.declared.numbers.At.{At}
 use Rattle.history_rules.specs.Nodes.{Past}
 use Rattle.history_rules.specs.Lines.{before_start}
 use Rattle.history_rules.specs.Points.{cut_has_put}
-use Rattle.point_history.specs.Walks.{line_cmp}
+use Rattle.known_past.specs.Lines.{line_cmp}
 
 -- what is noted of a line, that the cut had no put where nothing is
 abbrev pub cut_noted : BTreeMap (ℕ × ℕ) Bool → At → Bool

@@ -4,8 +4,7 @@ use Rattle.std.specs.List.{flat_map}
 use Rattle.history_rules.specs.declared.entry.Entry.{Entry}
 use Rattle.history_rules.specs.declared.entry.History.{History}
 use Rattle.history_rules.specs.Nodes.{Past}
-use Rattle.history_facts.specs.Generations.{ShowsGeneration}
-use Rattle.point_history.specs.Known.{IsKnown}
+use Rattle.known_past.specs.Known.{IsKnown}
 use Rattle.report_text.specs.Texts.{text_of_entry}
 use Rattle.report_reading.specs.Widths.{EntryIsNarrow}
 use Rattle.report_reading.specs.Readings.{as_told}
@@ -26,7 +25,6 @@ use Rattle.report_judge.specs.Turns.{ShowsTurns}
 -- what is kept shows what these entries do
 pub record IsShown (script : Script) (past : Past) (shown : Shown) : Type 0 where
   pub known : IsKnown past shown.known
-  pub generation : ShowsGeneration past shown.generation
   pub puts : shown.puts ≡ put_publishes past
   pub few : shown.puts ≤ length past
   pub cuts : ShowsCuts past shown.cuts

@@ -2,7 +2,7 @@
 
 ghost use Rattle.std.specs.Prelude.{◌≡◌, ◌≤◌, ◌<◌, ◌+◌, ◌^◌, ◌||◌, ◌∷◌, [], Some, reverse, length, IsTrue, IfOk, ◌↔◌};
 ghost use Rattle.script_serving.specs.Form.{IsInForm};
-ghost use Rattle.point_history.specs.Known.{IsKnown};
+ghost use Rattle.known_past.specs.Known.{IsKnown};
 ghost use Rattle.script_serving.specs.Lines.{lines_of, earlier_phases_answered};
 ghost use Rattle.script_serving.specs.Serves.{ServesLanes, ServesPhases, is_merge_fault};
 ghost use Rattle.script_serving.specs.Refusals.{put_publishes};
@@ -20,10 +20,10 @@ use crate::replay::Replay;
 use crate::serving::{fits_replay, fits_turn, is_merge};
 use crate::spots::{Spots, find_line, phase_of, spots_of};
 use crate::turns::{Turns, is_phase, phases_passed};
-use history_facts::Generation;
 use history_rules::{Entry, Event, History, Verdict};
+use known_past::{KnownPast, is_fault};
 use nrt_base::{At, LineNo, List, NoMemory};
-use point_history::{KnownPast, is_fault, legal};
+use point_history::legal;
 use report_reading::{entry_is_narrow, next_line};
 use script_serving::{LineCommand, Script};
 use std::alloc::Global;
@@ -32,7 +32,6 @@ use std::alloc::Global;
 #[derive(Drop)]
 pub struct Shown {
     pub known: KnownPast,
-    pub generation: Generation,
     /// How many publishes made a segment.
     pub puts: usize,
     pub cuts: Cuts,
@@ -113,7 +112,6 @@ fn fits_next(
         is_turn,
         entry.at,
         known,
-        &shown.generation,
         shown.puts,
         entries,
         &entry.event,
@@ -149,7 +147,6 @@ impl Shown {
         let turns = Turns::new(alloc, script)?;
         Ok(Shown {
             known: KnownPast::new(alloc),
-            generation: Generation::first(),
             puts: 0,
             cuts: Cuts::new(alloc),
             turns,
@@ -170,21 +167,18 @@ impl Shown {
     {
         let Shown {
             known,
-            generation,
             puts,
             mut cuts,
             mut turns,
             mut replay,
         } = self;
         let puts = puts_after(puts, &cuts, before, entry);
-        note_cut(&mut cuts, &generation, before, entry)?;
-        let generation = generation.after(before, entry);
+        note_cut(&mut cuts, &known.generation(before), before, entry)?;
         replay.take(alloc, &known, before, entry)?;
         let known = known.after(before, entry)?;
         turns.take(&known, before, entry)?;
         Ok(Shown {
             known,
-            generation,
             puts,
             cuts,
             turns,

@@ -5,13 +5,13 @@ ghost use Rattle.std.specs.Option.{option_copied};
 ghost use Rattle.std.specs.List.{flat_map, list_all, list_any};
 ghost use Rattle.history_rules.specs.Lines.{same_at as same_at_lem, is_answered as is_answered_lem};
 ghost use Rattle.script_serving.specs.Lines.{lines_of, lines_of_phase, lines_under, lines_of_lane, has_line, all_answered as all_answered_lem, earlier_phases_answered as earlier_phases_answered_lem};
-ghost use Rattle.point_history.specs.Known.{IsKnown};
+ghost use Rattle.known_past.specs.Known.{IsKnown};
 ghost use Rattle.report_judge.specs.Places.{place_of, earlier_places, unanswered_place, line_numbered as line_numbered_lem};
 
 use history_facts::same_at;
 use history_rules::Entry;
+use known_past::KnownPast;
 use nrt_base::{At, LaneNo, List, NoMemory};
-use point_history::KnownPast;
 use script_serving::{Line, Phase, Script};
 use std::alloc::Global;
 

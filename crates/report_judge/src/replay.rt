@@ -1,14 +1,14 @@
 //! What a log has, and what a replay has left of it.
 
 ghost use Rattle.std.specs.Prelude.{◌≡◌, ◌↔◌, [], ◌∷◌, reverse, drop, IsTrue, OnOk, IfOk};
-ghost use Rattle.point_history.specs.Known.{IsKnown};
+ghost use Rattle.known_past.specs.Known.{IsKnown};
 ghost use Rattle.report_judge.specs.Replaying.{ShowsReplay, left_to_replay};
 
 use documents::Op;
-use history_facts::{operation_count, version_of};
+use history_facts::operation_count;
 use history_rules::{Entry, Event};
+use known_past::KnownPast;
 use nrt_base::{NoMemory, Share, Version};
-use point_history::KnownPast;
 use std::alloc::Global;
 
 /// What a log has, and what is left of it to be accepted again. Without a log there is nothing of both.
@@ -114,7 +114,7 @@ impl Replay {
                 Ok(())
             }
             Event::Promoted { n, .. } => {
-                let searched = Version(version_of(*n, before));
+                let searched = Version(known.version_of(*n, before));
                 self.promote(alloc, operation_count(before, searched))
             }
             _ => Ok(()),

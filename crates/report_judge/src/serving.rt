@@ -1,22 +1,20 @@
 //! Whether an entry is one that its line asks for, in its turn.
 
 ghost use Rattle.std.specs.Prelude.{◌≡◌, List, [], ◌∷◌, reverse, Some, None, IsTrue, IfOk, ◌↔◌};
-ghost use Rattle.std.specs.Option.{option_copied};
-ghost use Rattle.history_facts.specs.Generations.{ShowsGeneration};
 ghost use Rattle.script_serving.specs.Refusals.{put_publishes, refusal as refusal_lem};
 ghost use Rattle.script_serving.specs.Serves.{First, Suits, SuitsFault, FitsTurn, FitsReplay, is_newest_at as is_newest_at_lem};
 ghost use Rattle.script_serving.specs.Lines.{earlier_answered};
 ghost use Rattle.history_rules.specs.Lines.{last_of_line as last_of_line_lem};
-ghost use Rattle.point_history.specs.Known.{IsKnown};
+ghost use Rattle.known_past.specs.Known.{IsKnown};
 ghost use Rattle.script_serving.specs.declared.script.Line.{Line};
 ghost use Rattle.documents.specs.declared.operation.Op.{Op};
 ghost use Rattle.report_reading.specs.Readings.{as_told};
 ghost use Rattle.report_judge.specs.Serving.{is_merge as is_merge_lem, is_acceptance as is_acceptance_lem};
 
-use history_facts::{Generation, last_of_line, same_at};
+use history_facts::same_at;
 use history_rules::{Cause, Entry, Event};
+use known_past::{KnownPast, is_fault};
 use nrt_base::{At, NoMemory};
-use point_history::{KnownPast, is_fault};
 use script_serving::LineCommand;
 use serving_rules::{begins, follows, may_be_refused, refusal};
 use std::alloc::Global;
@@ -71,22 +69,22 @@ fn is_first_unrefused(
     alloc: Global,
     command: &LineCommand,
     at: At,
-    generation: &Generation,
+    known: &KnownPast,
     puts: usize,
     entries: &[Entry],
     event: &Event,
 ) -> Result<bool, NoMemory>
     requires told { as_told [] command.now event.now ≡ event.now }
-    requires shown { ShowsGeneration (reverse entries.now) generation.now }
+    requires known { IsKnown (reverse entries.now) known.now }
     requires puts { puts ≡ put_publishes (reverse entries.now) }
     ensures { IfOk result (λ is. IsTrue is ↔
         First command.now at (reverse entries.now) None event.now) }
 {
     match event {
         Event::Refused { cause } => {
-            may_be_refused(alloc, command, at, generation, puts, entries, cause)
+            may_be_refused(alloc, command, at, puts, known, entries, cause)
         }
-        _ => Ok(begins(command, puts, entries, event)),
+        _ => Ok(begins(command, puts, known, entries, event)),
     }
 }
 
@@ -96,34 +94,19 @@ fn is_first(
     command: &LineCommand,
     at: At,
     known: &KnownPast,
-    generation: &Generation,
     puts: usize,
     entries: &[Entry],
     event: &Event,
 ) -> Result<bool, NoMemory>
     requires told { as_told [] command.now event.now ≡ event.now }
-    requires shown { ShowsGeneration (reverse entries.now) generation.now }
     requires puts { puts ≡ put_publishes (reverse entries.now) }
     requires known { IsKnown (reverse entries.now) known.now }
     ensures { IfOk result (λ is. IsTrue is ↔ First command.now at (reverse entries.now)
         (refusal_lem command.now at.lane.0 (reverse entries.now)) event.now) }
 {
-    match refusal(command, at.lane, known.primary, generation, entries) {
+    match refusal(command, at.lane, known, entries) {
         Some(cause) => Ok(is_refused_for(event, &cause)),
-        None => is_first_unrefused(alloc, command, at, generation, puts, entries, event),
-    }
-}
-
-/// The newest entry of a line that is no fault. It looks for it only where there is one.
-#[tactic(auto, using(crate::proofs::ServingLaws::nothing_newest))]
-fn newest_of_line<'a>(at: At, known: &KnownPast, entries: &'a [Entry]) -> Option<&'a Event>
-    requires { IsKnown (reverse entries.now) known.now }
-    ensures { option_copied result ≡ last_of_line_lem at (reverse entries.now) }
-{
-    if known.line(at, entries).begun {
-        last_of_line(at, entries)
-    } else {
-        None
+        None => is_first_unrefused(alloc, command, at, known, puts, entries, event),
     }
 }
 
@@ -133,20 +116,18 @@ fn suits(
     command: &LineCommand,
     at: At,
     known: &KnownPast,
-    generation: &Generation,
     puts: usize,
     entries: &[Entry],
     event: &Event,
 ) -> Result<bool, NoMemory>
     requires told { as_told [] command.now event.now ≡ event.now }
-    requires shown { ShowsGeneration (reverse entries.now) generation.now }
     requires puts { puts ≡ put_publishes (reverse entries.now) }
     requires known { IsKnown (reverse entries.now) known.now }
     ensures { IfOk result (λ is. IsTrue is ↔ Suits command.now at (reverse entries.now)
         (last_of_line_lem at (reverse entries.now)) event.now) }
 {
-    match newest_of_line(at, known, entries) {
-        None => is_first(alloc, command, at, known, generation, puts, entries, event),
+    match known.last_of_line(at, entries) {
+        None => is_first(alloc, command, at, known, puts, entries, event),
         Some(last) => Ok(!known.is_answered(at, entries) && follows(command, last, event)),
     }
 }
@@ -198,13 +179,11 @@ pub fn fits_turn(
     is_turn: bool,
     at: At,
     known: &KnownPast,
-    generation: &Generation,
     puts: usize,
     entries: &[Entry],
     event: &Event,
 ) -> Result<bool, NoMemory>
     requires told { as_told [] command.now event.now ≡ event.now }
-    requires shown { ShowsGeneration (reverse entries.now) generation.now }
     requires puts { puts ≡ put_publishes (reverse entries.now) }
     requires known { IsKnown (reverse entries.now) known.now }
     ensures { (lines : List Line) → is_turn ≡ earlier_answered lines at (reverse entries.now)
@@ -217,7 +196,7 @@ pub fn fits_turn(
     if !is_turn {
         return Ok(false);
     }
-    suits(alloc, command, at, known, generation, puts, entries, event)
+    suits(alloc, command, at, known, puts, entries, event)
 }
 
 fn is_newest_at(at: At, entries: &[Entry]) -> bool

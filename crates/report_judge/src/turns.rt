@@ -2,7 +2,7 @@
 
 ghost use Rattle.std.specs.Prelude.{ℕ, ◌≡◌, ◌==◌, [], ◌∷◌, if◌then◌else◌, reverse, Some, OnOk, IfOk, IfSome};
 ghost use Rattle.history_rules.specs.Nodes.{Past};
-ghost use Rattle.point_history.specs.Known.{IsKnown};
+ghost use Rattle.known_past.specs.Known.{IsKnown};
 ghost use Rattle.script_serving.specs.declared.script.Script.{Script};
 ghost use Rattle.script_serving.specs.Lines.{lines_of_lane, earlier_answered as earlier_answered_lem, earlier_phases_answered as earlier_phases_answered_lem};
 ghost use Rattle.report_judge.specs.Spots.{IsPhaseOf};
@@ -12,8 +12,8 @@ use crate::lines::{
     earlier_answered, earlier_phases_answered, has_place, lane_places, phase_answered,
 };
 use history_rules::Entry;
+use known_past::KnownPast;
 use nrt_base::{At, LaneNo, List, NoMemory};
-use point_history::KnownPast;
 use script_serving::Script;
 use std::alloc::Global;
 use std::collections::BTreeMap;

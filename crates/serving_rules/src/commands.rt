@@ -2,6 +2,7 @@
 
 ghost use Rattle.std.specs.Prelude.{◌≡◌, ℕ, [], reverse, IsTrue, ◌↔◌};
 ghost use Rattle.history_rules.specs.Nodes.{Past};
+ghost use Rattle.known_past.specs.Known.{IsKnown};
 ghost use Rattle.script_serving.specs.Refusals.{put_publishes};
 ghost use Rattle.script_serving.specs.Serves.{Begins, Follows};
 ghost use Rattle.report_reading.specs.Readings.{as_told};
@@ -10,6 +11,7 @@ use crate::refusals::{forced_version, is_copy_cause, is_loss};
 use documents::Query;
 use history_facts::is_disk_fault;
 use history_rules::{Entry, Event, FaultPlan};
+use known_past::KnownPast;
 use nrt_base::{Doc, Key, NodeNo, TicketNo, Version, Word};
 use script_serving::{Force, LineCommand};
 
@@ -136,13 +138,20 @@ fn is_reopening_begun(n: NodeNo, event: &Event) -> bool
     }
 }
 
-fn is_promotion_begun(n: NodeNo, force: Force, entries: &[Entry], event: &Event) -> bool
+fn is_promotion_begun(
+    n: NodeNo,
+    force: Force,
+    known: &KnownPast,
+    entries: &[Entry],
+    event: &Event,
+) -> bool
+    requires known { IsKnown (reverse entries.now) known.now }
     ensures { IsTrue result ↔
         Begins (LineCommand.Promote n force) (reverse entries.now) event.now }
 {
     match event {
         Event::Promoted { n: m, forced, .. } => {
-            m.0 == n.0 && forced.0 == forced_version(force, entries)
+            m.0 == n.0 && forced.0 == forced_version(force, known, entries)
         }
         _ => false,
     }
@@ -198,8 +207,15 @@ fn is_plan_begun(n: NodeNo, plan: FaultPlan, event: &Event) -> bool
 }
 
 /// Whether an entry begins a line: it is its start entry, or its reply where it has no start entry.
-pub fn begins(command: &LineCommand, puts: usize, entries: &[Entry], event: &Event) -> bool
+pub fn begins(
+    command: &LineCommand,
+    puts: usize,
+    known: &KnownPast,
+    entries: &[Entry],
+    event: &Event,
+) -> bool
     requires told { as_told [] command.now event.now ≡ event.now }
+    requires known { IsKnown (reverse entries.now) known.now }
     requires puts { puts ≡ put_publishes (reverse entries.now) }
     ensures { IsTrue result ↔ Begins command.now (reverse entries.now) event.now }
 {
@@ -217,7 +233,7 @@ pub fn begins(command: &LineCommand, puts: usize, entries: &[Entry], event: &Eve
         LineCommand::Commit(n) => is_commit_begun(*n, event),
         LineCommand::Crash(n, _) => is_crash_begun(*n, event),
         LineCommand::Reopen(n) => is_reopening_begun(*n, event),
-        LineCommand::Promote(n, force) => is_promotion_begun(*n, *force, entries, event),
+        LineCommand::Promote(n, force) => is_promotion_begun(*n, *force, known, entries, event),
         LineCommand::Merge(factor) => is_merge_begun(*factor, puts, entries, event),
         LineCommand::Drain(most) => is_drain_begun(*most, event),
         LineCommand::Files(n) => is_listing_begun(*n, event),

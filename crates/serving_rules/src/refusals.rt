@@ -6,13 +6,12 @@ ghost use Rattle.history_rules.specs.Faults.{has_fault, is_of_disk};
 ghost use Rattle.history_rules.specs.Points.{cut_of, cut_has_put};
 ghost use Rattle.history_rules.specs.Started.{is_loss as is_loss_lem};
 ghost use Rattle.history_facts.specs.Generations.{ShowsGeneration};
+ghost use Rattle.known_past.specs.Known.{IsKnown};
 ghost use Rattle.script_serving.specs.Refusals.{when as when_lem, without_primary as without_primary_lem, without_node as without_node_lem, forced_version as forced_version_lem, names_are_spent as names_are_spent_lem, refusal as refusal_lem, put_publishes, may_be_full as may_be_full_lem, may_be_refused as may_be_refused_lem, is_copy_cause as is_copy_cause_lem};
 
-use history_facts::{
-    Generation, documents_at, has_ticket, is_at, is_of_disk, is_running, merge_count,
-    newest_version, same_at,
-};
+use history_facts::{Generation, documents_at, is_at, is_of_disk, same_at};
 use history_rules::{Cause, Entry, Event};
+use known_past::KnownPast;
 use nrt_base::{At, LaneNo, NoMemory, NodeNo, SegNo, Version};
 use script_serving::{Force, LineCommand};
 use std::alloc::Global;
@@ -30,18 +29,20 @@ fn without_primary(primary: Option<NodeNo>) -> Option<Cause>
     when(primary.is_none(), Cause::NoPrimary)
 }
 
-fn without_node(n: NodeNo, entries: &[Entry]) -> Option<Cause>
+fn without_node(n: NodeNo, known: &KnownPast, entries: &[Entry]) -> Option<Cause>
+    requires known { IsKnown (reverse entries.now) known.now }
     ensures { result ≡ without_node_lem n.0 (reverse entries.now) }
 {
-    when(!is_running(n, entries), Cause::Down)
+    when(!known.is_running(n, entries), Cause::Down)
 }
 
 /// The forced version: the newest, or the one that is named.
-pub fn forced_version(force: Force, entries: &[Entry]) -> u64
+pub fn forced_version(force: Force, known: &KnownPast, entries: &[Entry]) -> u64
+    requires known { IsKnown (reverse entries.now) known.now }
     ensures { result ≡ forced_version_lem force (reverse entries.now) }
 {
     match force {
-        Force::Auto => newest_version(entries),
+        Force::Auto => known.newest(entries),
         Force::Exactly(version) => version,
     }
 }
@@ -84,71 +85,73 @@ fn publish_refusal(
     ))
 }
 
-fn promote_refusal(
-    n: NodeNo,
-    force: Force,
-    primary: Option<NodeNo>,
-    entries: &[Entry],
-) -> Option<Cause>
-    requires primary { primary ≡ primary_of (reverse entries.now) }
+fn promote_refusal(n: NodeNo, force: Force, known: &KnownPast, entries: &[Entry]) -> Option<Cause>
+    requires known { IsKnown (reverse entries.now) known.now }
     ensures { result ≡ refusal_lem (LineCommand.Promote n force) 0 (reverse entries.now) }
 {
-    let forced = forced_version(force, entries);
-    let newest = newest_version(entries);
+    let forced = forced_version(force, known, entries);
+    let newest = known.newest(entries);
     let low = when(forced < newest, Cause::ForceLow(Version(newest)));
     let high = when(1 << 62 <= forced, Cause::ForceHigh);
-    let up = when(primary.is_some(), Cause::PrimaryUp);
-    without_node(n, entries).or(up.or(high.or(low)))
+    let up = when(known.primary(entries).is_some(), Cause::PrimaryUp);
+    without_node(n, known, entries).or(up.or(high.or(low)))
 }
 
-/// Why a line is refused before it has started, where this primary runs.
+/// Why a line is refused before it has started.
 pub fn refusal(
     command: &LineCommand,
     lane: LaneNo,
-    primary: Option<NodeNo>,
-    generation: &Generation,
+    known: &KnownPast,
     entries: &[Entry],
 ) -> Option<Cause>
-    requires primary { primary ≡ primary_of (reverse entries.now) }
-    requires shown { ShowsGeneration (reverse entries.now) generation.now }
+    requires known { IsKnown (reverse entries.now) known.now }
     ensures { result ≡ refusal_lem command.now lane.0 (reverse entries.now) }
 {
+    let primary = known.primary(entries);
     match command {
         LineCommand::Put(_) | LineCommand::Delete(_) | LineCommand::Drop(_) => {
             without_primary(primary)
         }
         LineCommand::Settle | LineCommand::Merge(_) => without_primary(primary),
-        LineCommand::Publish => publish_refusal(primary, generation, entries),
+        LineCommand::Publish => publish_refusal(primary, &known.generation(entries), entries),
         LineCommand::Copy(n) => {
             let is_source = when(is_at(primary, *n), Cause::Primary);
-            without_node(*n, entries).or(without_primary(primary).or(is_source))
+            without_node(*n, known, entries).or(without_primary(primary).or(is_source))
         }
-        LineCommand::Search(n, _) | LineCommand::Commit(n) => without_node(*n, entries),
-        LineCommand::Crash(n, _) | LineCommand::Files(n) => without_node(*n, entries),
+        LineCommand::Search(n, _) | LineCommand::Commit(n) => without_node(*n, known, entries),
+        LineCommand::Crash(n, _) | LineCommand::Files(n) => without_node(*n, known, entries),
         LineCommand::Open(n, t) => {
-            when(has_ticket(lane, *t, entries), Cause::NameUsed).or(without_node(*n, entries))
+            when(known.has_ticket(lane, *t, entries), Cause::NameUsed).or(without_node(
+                *n, known, entries,
+            ))
         }
         LineCommand::Ask(t, _) | LineCommand::Close(t) => {
-            when(!has_ticket(lane, *t, entries), Cause::NoTicket)
+            when(!known.has_ticket(lane, *t, entries), Cause::NoTicket)
         }
-        LineCommand::Reopen(n) => when(is_running(*n, entries), Cause::Up),
-        LineCommand::Promote(n, force) => promote_refusal(*n, *force, primary, entries),
+        LineCommand::Reopen(n) => when(known.is_running(*n, entries), Cause::Up),
+        LineCommand::Promote(n, force) => promote_refusal(*n, *force, known, entries),
         LineCommand::Drain(_) | LineCommand::Fault(_, _) => None,
     }
 }
 
 /// Whether there may be 256 segments, where so many publishes made one.
-fn may_be_full(alloc: Global, puts: usize, entries: &[Entry]) -> Result<bool, NoMemory>
+fn may_be_full(
+    alloc: Global,
+    puts: usize,
+    known: &KnownPast,
+    entries: &[Entry],
+) -> Result<bool, NoMemory>
+    requires known { IsKnown (reverse entries.now) known.now }
     requires puts { puts ≡ put_publishes (reverse entries.now) }
     ensures { IfOk result (λ full. full ≡ may_be_full_lem (reverse entries.now)) }
 {
     if puts < 256 {
         return Ok(false);
     }
-    if merge_count(entries) > 0 {
+    if known.merge_count(entries) > 0 {
         return Ok(true);
     }
-    let documents = documents_at(alloc, entries, Version(newest_version(entries)))?;
+    let documents = documents_at(alloc, entries, Version(known.newest(entries)))?;
     Ok(documents.len() >= 256)
 }
 
@@ -169,34 +172,35 @@ fn has_disk_fault(n: NodeNo, at: At, entries: &[Entry]) -> bool
 
 fn may_refuse_publish(
     alloc: Global,
-    generation: &Generation,
     puts: usize,
+    known: &KnownPast,
     entries: &[Entry],
     cause: &Cause,
 ) -> Result<bool, NoMemory>
-    requires shown { ShowsGeneration (reverse entries.now) generation.now }
+    requires known { IsKnown (reverse entries.now) known.now }
     requires puts { puts ≡ put_publishes (reverse entries.now) }
     ensures { (at : At) → IfOk result (λ may. may
         ≡ may_be_refused_lem LineCommand.Publish at (reverse entries.now) cause.now) }
 {
+    let generation = known.generation(entries);
     match cause {
-        Cause::Nothing => Ok(cut_is_empty(generation, entries)),
+        Cause::Nothing => Ok(cut_is_empty(&generation, entries)),
         Cause::TooManySegments => {
-            let is_full = may_be_full(alloc, puts, entries)?;
-            Ok(cut_has_put(generation, entries) && is_full)
+            let is_full = may_be_full(alloc, puts, known, entries)?;
+            Ok(cut_has_put(&generation, entries) && is_full)
         }
         _ => Ok(false),
     }
 }
 
-fn may_refuse_merge(generation: &Generation, entries: &[Entry], cause: &Cause) -> bool
-    requires shown { ShowsGeneration (reverse entries.now) generation.now }
+fn may_refuse_merge(known: &KnownPast, entries: &[Entry], cause: &Cause) -> bool
+    requires known { IsKnown (reverse entries.now) known.now }
     ensures { (factor : ℕ) (at : At) → result
         ≡ may_be_refused_lem (LineCommand.Merge factor) at (reverse entries.now) cause.now }
 {
     match cause {
         Cause::Nothing => true,
-        Cause::NamesSpent => names_are_spent(generation, entries),
+        Cause::NamesSpent => names_are_spent(&known.generation(entries), entries),
         _ => false,
     }
 }
@@ -216,19 +220,19 @@ pub fn may_be_refused(
     alloc: Global,
     command: &LineCommand,
     at: At,
-    generation: &Generation,
     puts: usize,
+    known: &KnownPast,
     entries: &[Entry],
     cause: &Cause,
 ) -> Result<bool, NoMemory>
-    requires shown { ShowsGeneration (reverse entries.now) generation.now }
+    requires known { IsKnown (reverse entries.now) known.now }
     requires puts { puts ≡ put_publishes (reverse entries.now) }
     ensures { IfOk result (λ may. may
         ≡ may_be_refused_lem command.now at (reverse entries.now) cause.now) }
 {
     match command {
-        LineCommand::Publish => may_refuse_publish(alloc, generation, puts, entries, cause),
-        LineCommand::Merge(_) => Ok(may_refuse_merge(generation, entries, cause)),
+        LineCommand::Publish => may_refuse_publish(alloc, puts, known, entries, cause),
+        LineCommand::Merge(_) => Ok(may_refuse_merge(known, entries, cause)),
         LineCommand::Reopen(n) => Ok(may_refuse_reopening(*n, at, entries, cause)),
         _ => Ok(false),
     }

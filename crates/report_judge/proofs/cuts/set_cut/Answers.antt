@@ -1,8 +1,8 @@
 use Rattle.std.proofs.Common.{ap, ◌∙◌, Bool, false, Option, Some, if◌then◌else◌, unwrap_or}
 use Rattle.std.specs.BTreeMap.{get}
 use Rattle.history_rules.specs.Lines.{same_at}
-use Rattle.point_history.specs.Walks.{line_cmp}
-use Rattle.point_history.proofs.WalkLemmas.{is_eq-line_cmp, unwrap_or-if}
+use Rattle.known_past.specs.Lines.{line_cmp}
+use Rattle.known_past.proofs.LineLaws.{is_eq-line_cmp, unwrap_or-if}
 use Rattle.report_judge.proofs.cuts.set_cut.Goals as goal
 
 pub returns : goal.returns

@@ -9,7 +9,6 @@ returns c =
     let size : length (reverse c.args.before.now) ≡ length c.args.before.now = length-reverse c.args.before.now in
     record {
       known = c.in_ok-known.ensures;
-      generation = c.after-generation.ensures;
       puts = c.puts_after-puts.ensures.next;
       few = omega (arith, low, size);
       cuts = c.in_ok-note_cut.ensures;

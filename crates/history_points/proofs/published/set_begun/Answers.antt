@@ -1,0 +1,14 @@
+use Rattle.std.proofs.Common.{ap, ◌∙◌, Bool, Option, Some, [], List, if◌then◌else◌, unwrap_or}
+use Rattle.std.specs.BTreeMap.{get}
+use Rattle.nrt_base.specs.declared.doc.Doc.{Doc}
+use Rattle.history_rules.specs.Lines.{same_at}
+use Rattle.known_past.specs.Lines.{line_cmp}
+use Rattle.known_past.proofs.LineLaws.{is_eq-line_cmp, unwrap_or-if}
+use Rattle.history_points.proofs.published.set_begun.Goals as goal
+
+pub returns : goal.returns
+returns c = λ a.
+    let old = get line_cmp c.args.begun.now (a.lane.0, a.line.0) in
+    ap (λ (o : Option (List Doc)). unwrap_or o []) (c.in_ok-insert.ensures.updates.0 (a.lane.0, a.line.0)
+    ∙ ap (λ (b : Bool). if b then Some c.args.docs else old) (is_eq-line_cmp c.args.at a))
+    ∙ unwrap_or-if (same_at c.args.at a) c.args.docs [] old

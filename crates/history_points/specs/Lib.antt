@@ -1,0 +1,2 @@
+pub mod AskedPoints
+pub mod Walks

@@ -1,0 +1,7 @@
+pub mod LineLaws
+mod KnownLaws
+mod NodeLaws
+mod PlaceLaws
+mod VersionLaws
+mod FlightLaws
+pub mod Given

@@ -1,7 +1,0 @@
-use Rattle.std.proofs.Common.{reverse}
-use Rattle.point_history.proofs.AskedLaws.{one_written}
-use Rattle.point_history.proofs.asked.write.Goals as goal
-
-pub returns-in_ok-change-in-Accepted-clause-texts : goal.returns-in_ok-change-in-Accepted-clause-texts
-returns-in_ok-change-in-Accepted-clause-texts c = λ taken.
-    one_written (reverse c.args.before.now) c.args.entry.now c.in-Accepted.seq c.in-Accepted.op _ _ c.in-Accepted.is c.requires.texts c.in_ok-change-in-Accepted.ensures.after

@@ -1,6 +1,0 @@
-use Rattle.std.proofs.Common.{reverse, take}
-use Rattle.point_history.specs.Walks.{KnowsPast}
-use Rattle.point_history.proofs.published.points.Given as goal
-
-abbrev pub invariant-loop-entry : goal.invariant-loop-entry
-invariant-loop-entry l = KnowsPast (reverse (take l.entry-index l.entry-items)) l.walk
