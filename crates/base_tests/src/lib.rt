@@ -1,4 +1,5 @@
-//! Tests of values, of what a crash leaves on a disk, and of queries, which need nothing private.
+//! Tests of values, of what a crash leaves on a disk, and of queries, which need nothing private. They are a crate of their own, so that
+//! none that they test is proved twice.
 #![tactic(auto)]
 
 #[cfg(test)]

@@ -3,6 +3,7 @@ use Rattle.std.proofs.Common.{◌≡◌, ◌≢◌, ◌==◌, ◌||◌, ◌&&◌
 use Rattle.std.specs.Prelude.{not}
 use Rattle.std.proofs.lemmas.Bool.{eqb-true}
 use Rattle.nrt_base.specs.declared.numbers.At.{At}
+use Rattle.nrt_base.specs.declared.numbers.NodeNo.{NodeNo}
 use Rattle.history_rules.specs.declared.cause.FaultKind.{FaultKind}
 use Rattle.history_rules.specs.declared.cause.FaultKind.TheVariants.{Link, Damage, Disk, Stop}
 use Rattle.history_rules.specs.declared.entry.Event.{Event}
@@ -20,6 +21,8 @@ use Rattle.history_book.specs.Jobs.{LaneJobShows}
 use Rattle.history_book.specs.Told.{IsSo}
 use Rattle.link_model.specs.declared.fate.Fate.{Fate}
 use Rattle.link_model.specs.declared.fate.Fate.TheVariants.{Whole, Fail, Damage as DamageFate}
+use Rattle.cluster_state.specs.Run.{Run}
+use Rattle.cluster_state.specs.Copies.{FailsFor}
 use Rattle.cluster_state.specs.DueFaults.{MeetsFate, fate_cause, with_due}
 use Rattle.cluster_state.specs.Met.{with_met}
 use Rattle.cluster_state.proofs.Faulted.{met_keeps}
@@ -126,6 +129,12 @@ pub fate_told : (fate : Fate) (name : List ℕ) (at : At) (log : Log) → IsSo l
 fate_told Whole name at log = tt
 fate_told Fail name at log = tt
 fate_told (DamageFate byte) name at log = tt
+
+-- and needs no disk that failed
+pub fate_spared : (fate : Fate) (name : List ℕ) (n : NodeNo) (old new : Run) → fate ≢ Whole → FailsFor n (fate_cause fate name) old new
+fate_spared Whole name n old new broken = absurd (broken refl)
+fate_spared Fail name n old new broken = tt
+fate_spared (DamageFate byte) name n old new broken = tt
 
 -- behind faults of disks too
 pub breaks_met : (size : ℕ) (at : At) (n : ℕ) (olds news : List (ℕ × ℕ)) (log : Log) (fate : Fate) (name : List ℕ) (k : MeetsFault size (printed log) at n) → is_node_of size (before_start at (printed log)) k.begun n ≡ true

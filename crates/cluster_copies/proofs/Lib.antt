@@ -10,6 +10,7 @@ mod HandPaths
 mod Handing
 mod JobEnds
 mod JobMerges
+mod KeptJobs
 mod Leaving
 mod MetLines
 mod PartPaths

@@ -6,9 +6,10 @@ ghost use Rattle.history_rules.specs.Lines.{start_entry, entries_of_line, Source
 ghost use Rattle.history_tables.specs.Begins.{open_line};
 ghost use Rattle.history_book.specs.Log.{printed, shown};
 ghost use Rattle.history_book.specs.Jobs.{job_at, IsOlder};
-ghost use Rattle.cluster_state.specs.Run.{IsNow, IsEnded};
+ghost use Rattle.cluster_state.specs.Run.{IsNow, KeepsRest, IsEnded};
 ghost use Rattle.cluster_nodes.specs.Went.{ByWent};
 ghost use Rattle.cluster_state.specs.Copies.{newest_of, BeginsJob, BeginsNoJob};
+ghost use Rattle.cluster_state.specs.Keeping.{KeepsButJob};
 ghost use Rattle.cluster_state.specs.CopyCalls.{copying_log};
 ghost use Rattle.cluster_state.specs.GivesUp.{met_log};
 ghost use Rattle.cluster_state.specs.Settles.{WaitsFor};
@@ -38,6 +39,7 @@ pub fn note_copied<D: FaultDir + Drop>(
     ensures ok { OnOk result (IsNow cluster.old cluster.new
         (shown at (Event.Copied n (newest_of (printed cluster.old.log)))
         ∷ shown at (Event.Copying n (newest_of (printed cluster.old.log))) ∷ cluster.old.log)) }
+    ensures rest { OnOk result (KeepsRest cluster.old cluster.new) }
     ensures err { OnErr result (IsEnded cluster.old cluster.new) }
 {
     let book = cluster.ledger.book();
@@ -74,6 +76,8 @@ pub fn begin_copy<D: FaultDir + Drop>(
     ensures ok { IfOk result (ByWent
         (BeginsJob at n cluster.old cluster.new (copying_log at n cluster.old cluster.new))
         (BeginsNoJob at n cluster.old cluster.new (copying_log at n cluster.old cluster.new))) }
+    ensures rest { IfOk result (ByWent (λ task. KeepsButJob n.0 cluster.old cluster.new)
+        (KeepsRest cluster.old cluster.new)) }
     ensures err { OnErr result (IsEnded cluster.old cluster.new) }
 {
     let book = cluster.ledger.book();
@@ -135,6 +139,8 @@ pub fn begin_settling<D: FaultDir + Drop>(
     ensures ok { IfOk result (ByWent
         (BeginsJob at n cluster.old cluster.new (met_log at cluster.old cluster.new))
         (BeginsNoJob at n cluster.old cluster.new (met_log at cluster.old cluster.new))) }
+    ensures rest { IfOk result (ByWent (λ task. KeepsButJob n.0 cluster.old cluster.new)
+        (KeepsRest cluster.old cluster.new)) }
     ensures err { OnErr result (IsEnded cluster.old cluster.new) }
 {
     let book = cluster.ledger.book();

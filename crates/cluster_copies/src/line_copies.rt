@@ -14,7 +14,8 @@ ghost use Rattle.history_book.specs.Told.{IsSo};
 ghost use Rattle.history_book.specs.Jobs.{job_of};
 ghost use Rattle.script_serving.specs.declared.script.LineCommand.TheVariants.{Copy};
 ghost use Rattle.script_serving.specs.Refusals.{refusal};
-ghost use Rattle.cluster_state.specs.Run.{IsEnded};
+ghost use Rattle.cluster_state.specs.Run.{KeepsRest, IsEnded};
+ghost use Rattle.cluster_state.specs.Keeping.{KeepsButFiles, KeepsButBegun};
 ghost use Rattle.cluster_state.specs.Copies.{JobRuns};
 ghost use Rattle.cluster_state.specs.DueFaults.{MeetsFate, ArrivesBy};
 ghost use Rattle.cluster_state.specs.FilesOut.{file_out};
@@ -92,6 +93,7 @@ pub fn copy_start<D: FaultDir + Drop>(
     requires node { IsNode state.old.nodes n.0 }
     ensures ok { IfOk result (CopyStarts at n state.old state.new) }
     ensures exact { IfOk result (CopyStartsWhen at n state.old.log) }
+    ensures rest { IfOk result (KeepsButBegun state.old state.new) }
     ensures err { OnErr result (IsEnded state.old state.new) }
 {
     let p = match source_for(state, n) {
@@ -166,6 +168,7 @@ fn refuse_job<D: FaultDir + Drop>(
         (Event.Refused cause) }
     requires told { IsSo state.old.log row.job.at (Event.Refused cause) }
     ensures ok { OnOk result (LineRefused row.job.at cause state.old state.new) }
+    ensures rest { OnOk result (KeepsRest state.old state.new) }
     ensures err { OnErr result (IsEnded state.old state.new) }
 {
     state.book().job_shows(row);
@@ -187,6 +190,7 @@ fn is_stopped<D: FaultDir + Drop>(
     ensures runs { IfOk result (λ stopped. stopped ≡ false → RunsOn row state.old state.new) }
     ensures same { IfOk result (λ stopped. stopped ≡ false → state.new ≡ state.old) }
     ensures going { IfOk result (λ stopped. JobRuns state.old.log row → stopped ≡ false) }
+    ensures rest { OnOk result (KeepsRest state.old state.new) }
     ensures err { OnErr result (IsEnded state.old state.new) }
 {
     match standing(state.book(), row) {
@@ -212,6 +216,7 @@ pub fn copy_next<D: FaultDir + Drop>(
         → JobSteps (stopped_log begun row state.old.log) row.job state.old state.new turn) }
     ensures goes { IfOk result (λ turn. JobRuns state.old.log row
         → JobGoesOn row.job state.old state.new turn) }
+    ensures rest { OnOk result (KeepsButFiles row.job.node.0 state.old state.new) }
     ensures err { OnErr result (IsEnded state.old state.new) }
 {
     if is_stopped(state, row)? {
@@ -245,6 +250,7 @@ pub fn copy_arrived<D: FaultDir + Drop>(
         state.old state.new turn) }
     ensures goes { IfOk result (λ turn. JobRuns state.old.log row
         → JobTakes row.job file.now state.old state.new turn) }
+    ensures rest { OnOk result (KeepsButFiles row.job.node.0 state.old state.new) }
     ensures err { OnErr result (IsEnded state.old state.new) }
 {
     if is_stopped(state, row)? {

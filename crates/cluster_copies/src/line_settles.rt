@@ -1,9 +1,10 @@
 //! Settles: copies to every replica that runs.
 
-ghost use Rattle.std.specs.Prelude.{◌≡◌, [], false, OnErr, IfOk};
+ghost use Rattle.std.specs.Prelude.{◌≡◌, [], false, OnOk, OnErr, IfOk};
 ghost use Rattle.history_rules.specs.Lines.{entries_of_line};
 ghost use Rattle.history_book.specs.Log.{printed};
-ghost use Rattle.cluster_state.specs.Run.{IsEnded};
+ghost use Rattle.cluster_state.specs.Run.{KeepsRest, IsEnded};
+ghost use Rattle.cluster_state.specs.Keeping.{KeepsButBegun};
 ghost use Rattle.cluster_state.specs.Settles.{IsSettling};
 ghost use Rattle.cluster_state.specs.CopyCalls.{SettleStarts, SettleGoesOn};
 
@@ -26,6 +27,7 @@ pub fn settle_start<D: FaultDir + Drop>(
     requires running { state.old.ended ≡ false }
     requires fresh { entries_of_line at (printed state.old.log) ≡ [] }
     ensures ok { IfOk result (SettleStarts at state.old state.new) }
+    ensures rest { OnOk result (KeepsRest state.old state.new) }
     ensures err { OnErr result (IsEnded state.old state.new) }
 {
     if state.primary().is_none() {
@@ -47,6 +49,7 @@ pub fn settle_next<D: FaultDir + Drop>(
     requires settling { IsSettling state.old.nodes (printed state.old.log) at task.old }
     ensures ok { IfOk result (SettleGoesOn at state.old state.new task.new) }
     ensures version { task.new.version ≡ task.old.version }
+    ensures rest { IfOk result (KeepsButBegun state.old state.new) }
     ensures err { OnErr result (IsEnded state.old state.new) }
 {
     state.book().is_legal();

@@ -7,7 +7,7 @@ ghost use Rattle.history_rules.specs.Lines.{entries_of_line, SourceSurvives};
 ghost use Rattle.history_rules.specs.Rules.{IsLineWhole, MaySettle};
 ghost use Rattle.history_book.specs.Log.{printed, shown};
 ghost use Rattle.cluster_state.specs.Settles.{IsSettling, WaitsFor};
-ghost use Rattle.cluster_state.specs.Run.{IsNow, IsEnded};
+ghost use Rattle.cluster_state.specs.Run.{IsNow, KeepsRest, IsEnded};
 ghost use Rattle.cluster_state.specs.Copies.{newest_of};
 
 use cluster_nodes::SettleTask;
@@ -29,6 +29,7 @@ pub fn begin_settle<D: FaultDir + Drop>(
     ensures ok { OnOk result (IsNow cluster.old cluster.new
         (shown at (Event.Settling (newest_of (printed cluster.old.log))) ∷ cluster.old.log)) }
     ensures settling { IfOk result (IsSettling cluster.new.nodes (printed cluster.new.log) at) }
+    ensures rest { OnOk result (KeepsRest cluster.old cluster.new) }
     ensures err { OnErr result (IsEnded cluster.old cluster.new) }
 {
     let book = cluster.ledger.book();

@@ -11,7 +11,8 @@ ghost use Rattle.history_book.specs.Log.{printed};
 ghost use Rattle.cluster_nodes.specs.Went.{ByWent};
 ghost use Rattle.cluster_state.specs.Copies.{is_copy_start, BringsFile, JobRuns, JobRefused, ended_log, GoesOn};
 ghost use Rattle.cluster_state.specs.GivesUp.{met_log};
-ghost use Rattle.cluster_state.specs.Run.{files_at, IsNow, IsEnded};
+ghost use Rattle.cluster_state.specs.Run.{files_at, IsNow, KeepsRest, IsEnded};
+ghost use Rattle.cluster_state.specs.Keeping.{KeepsButFiles};
 ghost use Rattle.cluster_state.specs.DueFaults.{MeetsFate, ArrivesBy, fate_cause};
 ghost use Rattle.cluster_state.specs.FilesOut.{file_out};
 
@@ -127,6 +128,9 @@ pub fn go_on<D: FaultDir + Drop>(
     requires ordered { highest_switched row.job.at (printed cluster.old.log) < row.job.node.0 }
     ensures ok { IfOk result (ByWent (GoesOn row.job cluster.old cluster.new)
         (JobRefused row.job Cause.DiskFault cluster.old cluster.new)) }
+    ensures rest { IfOk result (ByWent
+        (λ file. KeepsButFiles row.job.node.0 cluster.old cluster.new)
+        (KeepsRest cluster.old cluster.new)) }
     ensures err { OnErr result (IsEnded cluster.old cluster.new) }
 {
     let book = cluster.ledger.book();
@@ -229,6 +233,9 @@ pub fn take_part<D: FaultDir + Drop>(
         (JobRefused row.job Cause.DiskFault cluster.old cluster.new)) }
     ensures has { IfOk result (ByWent (λ done. BringsFile part.name
         (files_at row.job.node.0 cluster.old) (files_at row.job.node.0 cluster.new)) ⊤) }
+    ensures rest { IfOk result (ByWent
+        (λ done. KeepsButFiles row.job.node.0 cluster.old cluster.new)
+        (KeepsRest cluster.old cluster.new)) }
     ensures err { OnErr result (IsEnded cluster.old cluster.new) }
 {
     let book = cluster.ledger.book();
@@ -281,6 +288,7 @@ pub fn refuse_part<D: FaultDir + Drop>(
     requires arrives { ArrivesBy file.now (Err fault) }
     ensures ok { OnOk result (JobRefused row.job (fate_cause file.now.fate file.now.name)
         cluster.old cluster.new) }
+    ensures rest { OnOk result (KeepsRest cluster.old cluster.new) }
     ensures err { OnErr result (IsEnded cluster.old cluster.new) }
 {
     let book = cluster.ledger.book();

@@ -9,6 +9,7 @@ use Rattle.nrt_base.specs.declared.numbers.At.{At}
 use Rattle.nrt_base.specs.declared.numbers.NodeNo.{NodeNo}
 use Rattle.nrt_base.specs.declared.numbers.TicketNo.{TicketNo}
 use Rattle.nrt_base.specs.declared.numbers.Version.{Version}
+use Rattle.disk_model.specs.Disk.{Cells}
 use Rattle.documents.specs.declared.operation.Op.{Op}
 use Rattle.documents.specs.declared.operation.Op.TheVariants.{Put as PutOp, Delete as DeleteOp, Drop as DropOp}
 use Rattle.documents.specs.declared.query.Query.{Query}
@@ -143,10 +144,10 @@ close_replied at t old new (Some ticket) now = top_replied at new (Closed (recor
 
 -- ---- files
 
-pub files_does : (at : At) (n : NodeNo) (old new : Run) → IsFresh at (printed old.log) → ListsFiles at n old new → Does (ListOf n) at old new
+pub files_does : {D : Type 0} {cells : D → Cells} (at : At) (n : NodeNo) (old new : Run) → IsFresh at (printed old.log) → ListsFiles cells at n old new → Does (ListOf n) at old new
 files_does at n old new fresh lists = row_does (ListOf n) at old new (without_node n.0 (printed old.log)) (Files n lists.names) (λ suits. suits) fresh refl lists.now refl
 
-pub files_replied : (at : At) (n : NodeNo) (old new : Run) → ListsFiles at n old new → IsReplied at new
+pub files_replied : {D : Type 0} {cells : D → Cells} (at : At) (n : NodeNo) (old new : Run) → ListsFiles cells at n old new → IsReplied at new
 files_replied at n old new lists = row_replied at old new (without_node n.0 (printed old.log)) (Files n lists.names) refl lists.now
 
 -- ---- search and ask

@@ -1,5 +1,6 @@
 pub mod Does
 pub mod MetDoes
+mod NoneTold
 mod CopyDoes
 mod SettleStays
 mod LifeDoes

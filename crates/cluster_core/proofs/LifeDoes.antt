@@ -24,10 +24,10 @@ use Rattle.cluster_state.specs.declared.turn.Turn.{Turn}
 use Rattle.cluster_state.specs.declared.turn.Turn.TheVariants.{Work, Done, Busy}
 use Rattle.cluster_recovery.specs.Planning.{PlansFault}
 use Rattle.cluster_core.specs.Doing.{Does, IsReplied, IsRepliedAtDone, IsBegunAtWork}
-use Rattle.cluster_state.specs.GivesUp.{met_log}
+use Rattle.cluster_state.specs.GivesUp.{met_log, disk_failed}
 use Rattle.cluster_state.specs.Calls.{by_refusal}
 use Rattle.cluster_state.specs.Met.{failures_by_plan}
-use Rattle.cluster_state.specs.Lives.{reopen_reply, disk_failed, MayReopenAt}
+use Rattle.cluster_state.specs.Lives.{reopen_reply, MayReopenAt}
 use Rattle.cluster_state.proofs.Planned.{met_there}
 use Rattle.cluster_state.specs.LifeCalls.{CommitStarts, CommitEndsBy, CommitSteps, crash_event, with_node, ReopensNode}
 use Rattle.cluster_core.proofs.Does.{row_does, reply_by, none_does, refused_for_does, refused_for_replied, begun_by, one_does, later_suits, started_unanswered, one_replied}

@@ -13,8 +13,8 @@ use Rattle.history_rules.specs.declared.entry.Event.TheVariants.{Fault, Refused}
 use Rattle.history_rules.specs.Nodes.{Past}
 use Rattle.history_rules.specs.Lines.{same_at, is_reply, is_answered, last_of_line}
 use Rattle.history_rules.specs.FaultLaws.{faulted}
-use Rattle.history_rules.specs.Tickets.{Ticket, last_opened, while_alive, has_ticket}
-use Rattle.history_rules.proofs.FaultLaws.{both}
+use Rattle.history_rules.specs.Tickets.{Ticket, last_opened, has_ticket}
+use Rattle.history_rules.proofs.FaultLaws.{both, alive_over}
 use Rattle.history_tables.proofs.RowLemmas.{same_at_self}
 use Rattle.history_book.specs.Laws.{IsFresh}
 use Rattle.history_book.specs.declared.inner.Mark.TheVariants.{Shown, TaskFault, Kept}
@@ -37,10 +37,6 @@ use Rattle.lane_threads.specs.Owes.{SuitsOrFault, SuitsOrReplays, AddsEntries, G
 use Rattle.cluster_core.specs.Doing.{Does, IsReplied, IsBegunBy}
 
 -- ---- why a line is refused, over a fault
-
-alive_over : (past : Past) (by : At) (n : NodeNo) (kind : FaultKind) (o : Option Ticket) → while_alive (faulted by n kind past) o ≡ while_alive past o
-alive_over past by n kind None = refl
-alive_over past by n kind (Some ticket) = refl
 
 has_over : (lane t : ℕ) (past : Past) (by : At) (n : NodeNo) (kind : FaultKind) → has_ticket lane t (faulted by n kind past) ≡ has_ticket lane t past
 has_over lane t past by n kind = ap (λ (o : Option Ticket). is_some (if t == 0 then None else o)) (alive_over past by n kind (last_opened lane t past))

@@ -42,6 +42,7 @@ impl<D: FaultDir + Drop> Cluster<D> {
         requires number { t.0 ≢ 0 }
         ensures ok { OnOk result (IsNow self.old self.new (shown at
             (open_event at.lane.0 n t (printed self.old.log)) ∷ self.old.log)) }
+        ensures plans { OnOk result (self.new.rest.plans ≡ self.old.rest.plans) }
         ensures rest { OnOk result (KeepsRest self.old self.new) }
         ensures err { OnErr result (IsEnded self.old self.new) }
 
@@ -63,6 +64,7 @@ impl<D: FaultDir + Drop> Cluster<D> {
         requires fresh { entries_of_line at (printed self.old.log) ≡ [] }
         requires node { IsNode self.old.nodes n.0 }
         ensures ok { IfOk result (SearchStarts at n self.old self.new) }
+        ensures plans { OnOk result (self.new.rest.plans ≡ self.old.rest.plans) }
         ensures rest { OnOk result (KeepsRest self.old self.new) }
         ensures err { OnErr result (IsEnded self.old self.new) }
 
@@ -85,6 +87,7 @@ impl<D: FaultDir + Drop> Cluster<D> {
         requires running { self.old.ended ≡ false }
         requires fresh { entries_of_line at (printed self.old.log) ≡ [] }
         ensures ok { IfOk result (AskStarts at t self.old self.new) }
+        ensures plans { OnOk result (self.new.rest.plans ≡ self.old.rest.plans) }
         ensures rest { OnOk result (KeepsRest self.old self.new) }
         ensures err { OnErr result (IsEnded self.old self.new) }
 
@@ -146,7 +149,8 @@ impl<D: FaultDir + Drop> Cluster<D> {
         requires running { self.old.ended ≡ false }
         requires fresh { entries_of_line at (printed self.old.log) ≡ [] }
         requires node { IsNode self.old.nodes n.0 }
-        ensures ok { OnOk result (ListsFiles at n self.old self.new) }
+        ensures ok { OnOk result (ListsFiles D.cells at n self.old self.new) }
+        ensures plans { OnOk result (self.new.rest.plans ≡ self.old.rest.plans) }
         ensures rest { OnOk result (KeepsRest self.old self.new) }
         ensures err { OnErr result (IsEnded self.old self.new) }
 

@@ -30,7 +30,9 @@ impl<D: FaultDir + Drop> Cluster<D> {
     ghost use Rattle.history_book.specs.Log.{printed, shown};
     ghost use Rattle.script_serving.specs.declared.script.LineCommand.TheVariants.{Publish};
     ghost use Rattle.script_serving.specs.Refusals.{without_primary};
+    ghost use Rattle.lane_threads.specs.Idle.{TellsNone};
     ghost use Rattle.cluster_state.specs.Run.{IsNow, KeepsRest, IsEnded};
+    ghost use Rattle.cluster_state.specs.Keeping.{KeepsButPoint};
     ghost use Rattle.cluster_state.specs.Writes.{IsFlushed};
     ghost use Rattle.cluster_core.specs.Doing.{Does, IsReplied, IsRepliedAtDone, IsBegunAtWork, writing_command};
     ghost use Rattle.cluster_state.specs.Calls.{by_refusal, PublishStarts};
@@ -95,9 +97,11 @@ impl<D: FaultDir + Drop> Cluster<D> {
 
         // what the line is owed
         ensures does { OnOk result (Does Publish at self.old self.new) }
+        ensures none { OnOk result (TellsNone Publish self.old.log self.new.log) }
         ensures replied { IfOk result (IsRepliedAtDone at self.new) }
         ensures begun { IfOk result (IsBegunAtWork at (λ task. Event.Publishing) self.new) }
     {
+        self.state.has_cut_over();
         publish_start(&mut self.state, alloc, at)
     }
 
@@ -108,10 +112,12 @@ impl<D: FaultDir + Drop> Cluster<D> {
         requires started { last_of_line at (printed self.old.log) ≡ Some Event.Publishing }
         requires work { IsFlushed at self.old.log work }
         ensures ok { OnOk result (EndsPublish at self.old self.new) }
+        ensures rest { OnOk result (KeepsButPoint self.old self.new) }
         ensures err { OnErr result (IsEnded self.old self.new) }
 
         // what the line is owed
         ensures does { OnOk result (Does Publish at self.old self.new) }
+        ensures none { OnOk result (TellsNone Publish self.old.log self.new.log) }
         ensures replied { OnOk result (IsReplied at self.new) }
     {
         self.state.book().is_legal();

@@ -1,10 +1,10 @@
 //! The cluster.
 
-use cluster_recovery::start_cluster;
+use cluster_recovery::{into_dir, start_cluster};
 use cluster_state::ClusterState;
 use disk_model::FaultDir;
 use history_rules::{Entry, History};
-use nrt_base::NoMemory;
+use nrt_base::{NoMemory, NodeNo};
 use std::alloc::Global;
 use std::marker::Model;
 
@@ -32,12 +32,15 @@ impl<D: FaultDir> Model for Cluster<D> {
 impl<D: FaultDir + Drop> Cluster<D> {
     ghost use Rattle.std.specs.Prelude.{◌≡◌, ◌≤◌, [], false, IfOk, length, reverse};
     ghost use Rattle.std.specs.List.{All};
+    ghost use Rattle.disk_model.specs.Disk.{reads_of};
+    ghost use Rattle.history_rules.specs.Nodes.{IsNode, is_running};
     ghost use Rattle.history_rules.specs.Legal.{IsLegal, IsLegalPast};
     ghost use Rattle.history_book.specs.Log.{printed, FaultsFollow};
     ghost use Rattle.history_book.specs.Turns.{AreInTurn};
     ghost use Rattle.history_book.specs.Told.{IsTold};
     ghost use Rattle.cluster_state.specs.Starting.{IsEmptyDir};
     ghost use Rattle.cluster_state.specs.Run.{IsEnded};
+    ghost use Rattle.cluster_state.specs.NodeDirs.{IsNodeDir, FindsVersion};
 
     /// A cluster over these empty directories. Node 1 is the primary, and the others are replicas.
     pub fn start(alloc: Global, dirs: Vec<D>) -> Result<Self, NoMemory>
@@ -94,5 +97,23 @@ impl<D: FaultDir + Drop> Cluster<D> {
         let book = self.state.into_book();
         book.is_legal();
         book.into_history()
+    }
+
+    /// The directory of a node, once no other call is to be made. No call of a disk is made.
+    pub fn into_dir(self, n: NodeNo) -> D
+        requires running { self.ended ≡ false }
+        requires node { IsNode self.nodes n.0 }
+        ensures is { IsNodeDir D.cells self n.0 result }
+        ensures down { is_running n.0 (printed self.log) ≡ false
+            → FindsVersion (printed self.log) n.0 (reads_of (D.cells result)) }
+    {
+        into_dir(self.state, n)
+    }
+
+    /// The state of the cluster, once no other call is to be made.
+    pub fn into_state(self) -> ClusterState<D>
+        ensures { result ≡ self }
+    {
+        self.state
     }
 }

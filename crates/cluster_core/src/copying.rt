@@ -22,7 +22,8 @@ impl<D: FaultDir + Drop> Cluster<D> {
     ghost use Rattle.script_serving.specs.declared.script.LineCommand.{LineCommand};
     ghost use Rattle.script_serving.specs.declared.script.LineCommand.TheVariants.{Copy, Settle};
     ghost use Rattle.cluster_state.specs.Given.{SettleTask};
-    ghost use Rattle.cluster_state.specs.Run.{IsNow, IsEnded};
+    ghost use Rattle.cluster_state.specs.Run.{IsNow, KeepsRest, IsEnded};
+    ghost use Rattle.cluster_state.specs.Keeping.{KeepsButFiles, KeepsButBegun};
     ghost use Rattle.cluster_state.specs.DueFaults.{MeetsFate, ArrivesBy};
     ghost use Rattle.cluster_state.specs.FilesOut.{file_out};
     ghost use Rattle.cluster_state.specs.Copies.{newest_of, IsCopying, JobRuns};
@@ -45,6 +46,7 @@ impl<D: FaultDir + Drop> Cluster<D> {
         requires node { IsNode self.old.nodes n.0 }
         ensures ok { IfOk result (CopyStarts at n self.old self.new) }
         ensures exact { IfOk result (CopyStartsWhen at n self.old.log) }
+        ensures rest { IfOk result (KeepsButBegun self.old self.new) }
         ensures err { OnErr result (IsEnded self.old self.new) }
 
         // what the line is owed
@@ -75,6 +77,7 @@ impl<D: FaultDir + Drop> Cluster<D> {
             → start_entry at (printed self.old.log) ≡ Some begun
             → stopped_log begun row self.old.log ≡ Some log
             → StopsTurn log self.old self.new turn) }
+        ensures rest { OnOk result (KeepsButFiles task.now.node.0 self.old self.new) }
         ensures err { OnErr result (IsEnded self.old self.new) }
 
         // what the line is owed
@@ -122,6 +125,7 @@ impl<D: FaultDir + Drop> Cluster<D> {
             → start_entry at (printed self.old.log) ≡ Some begun
             → stopped_log begun row self.old.log ≡ Some log
             → StopsTurn log self.old self.new turn) }
+        ensures rest { OnOk result (KeepsButFiles task.now.node.0 self.old self.new) }
         ensures err { OnErr result (IsEnded self.old self.new) }
 
         // what the line is owed
@@ -141,6 +145,7 @@ impl<D: FaultDir + Drop> Cluster<D> {
         requires running { self.old.ended ≡ false }
         requires fresh { entries_of_line at (printed self.old.log) ≡ [] }
         ensures ok { IfOk result (SettleStarts at self.old self.new) }
+        ensures rest { OnOk result (KeepsRest self.old self.new) }
         ensures err { OnErr result (IsEnded self.old self.new) }
 
         // what the line is owed
@@ -165,6 +170,7 @@ impl<D: FaultDir + Drop> Cluster<D> {
         requires settling { IsSettling self.old.nodes (printed self.old.log) at task.old }
         ensures ok { IfOk result (SettleGoesOn at self.old self.new task.new) }
         ensures version { task.new.version ≡ task.old.version }
+        ensures rest { IfOk result (KeepsButBegun self.old self.new) }
         ensures err { OnErr result (IsEnded self.old self.new) }
 
         // what the line is owed

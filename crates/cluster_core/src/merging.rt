@@ -24,6 +24,7 @@ impl<D: FaultDir + Drop> Cluster<D> {
     ghost use Rattle.merge_tasks.specs.Board.{open_merge, is_unwritten};
     ghost use Rattle.cluster_state.specs.DueFaults.{ArrivesBy};
     ghost use Rattle.cluster_state.specs.Run.{IsEnded};
+    ghost use Rattle.cluster_merges.specs.MergesKept.{KeepsButSizes, KeepsButTasks, KeepsButCut, KeepsCopyTurn, KeepsButCopies};
     ghost use Rattle.cluster_merges.specs.MergePaths.{IsMergedOut, EndsBuild, TakesTask};
     ghost use Rattle.cluster_merges.specs.TaskCalls.{MergeLine, PrecopyTurns, PartTurns, CutTurns, DrainTurns};
     ghost use Rattle.cluster_core.specs.Doing.{Does, IsReplied, IsRepliedAtDone};
@@ -35,6 +36,7 @@ impl<D: FaultDir + Drop> Cluster<D> {
         requires fresh { entries_of_line at (printed self.old.log) ≡ [] }
         requires factor { 2 ≤ factor }
         ensures ok { OnOk result (MergeLine at factor self.old self.new) }
+        ensures rest { OnOk result (KeepsButSizes self.old self.new) }
         ensures err { OnErr result (IsEnded self.old self.new) }
 
         // what the line is owed
@@ -48,6 +50,7 @@ impl<D: FaultDir + Drop> Cluster<D> {
     pub fn task_take(&mut self, by: Option<At>) -> Result<Option<Task>, NoMemory>
         requires running { self.old.ended ≡ false }
         ensures ok { IfOk result (TakesTask by self.old self.new) }
+        ensures rest { OnOk result (KeepsButTasks self.old self.new) }
         ensures err { OnErr result (IsEnded self.old self.new) }
 
         // what its taker is owed
@@ -90,6 +93,7 @@ impl<D: FaultDir + Drop> Cluster<D> {
         requires node { IsNode self.old.nodes copy.node.0 }
         ensures ok { IfOk result (PrecopyTurns task.now.line task.now.seg task.now.by
             copy.node copy.job self.old self.new) }
+        ensures rest { IfOk result (KeepsCopyTurn copy.node.0 self.old self.new) }
         ensures err { OnErr result (IsEnded self.old self.new) }
 
         // what its taker is owed
@@ -125,6 +129,7 @@ impl<D: FaultDir + Drop> Cluster<D> {
         requires arrives { ArrivesBy file.now arrived }
         ensures ok { IfOk result (PartTurns task.now.line task.now.seg task.now.by
             copy.node copy.job file.now.fate self.old self.new) }
+        ensures rest { OnOk result (KeepsButCopies copy.node.0 self.old self.new) }
         ensures err { OnErr result (IsEnded self.old self.new) }
 
         // what its taker is owed
@@ -151,6 +156,7 @@ impl<D: FaultDir + Drop> Cluster<D> {
         requires running { self.old.ended ≡ false }
         ensures ok { IfOk result (CutTurns task.now.line task.now.seg task.now.by
             self.old self.new) }
+        ensures rest { OnOk result (KeepsButCut self.old self.new) }
         ensures err { OnErr result (IsEnded self.old self.new) }
 
         // what its taker is owed
@@ -176,6 +182,7 @@ impl<D: FaultDir + Drop> Cluster<D> {
         requires fresh { entries_of_line at (printed self.old.log) ≡ [] }
         requires few { counted_for at self.old.log ≤ most }
         ensures ok { IfOk result (DrainTurns at most self.old self.new) }
+        ensures rest { OnOk result (KeepsButTasks self.old self.new) }
         ensures err { OnErr result (IsEnded self.old self.new) }
 
         // what the line is owed

@@ -34,6 +34,7 @@ impl<D: FaultDir + Drop> Cluster<D> {
         ensures ok { OnOk result (IsNow self.old self.new
             (shown at (promote_event at.lane.0 n force (printed self.old.log))
             ∷ met_log at self.old self.new)) }
+        ensures tasks { OnOk result (self.new.rest.tasks ≡ self.old.rest.tasks) }
         ensures err { OnErr result (IsEnded self.old self.new) }
 
         // what the line is owed

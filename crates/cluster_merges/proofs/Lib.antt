@@ -14,6 +14,7 @@ mod EndedCopies
 pub mod FilesMore
 mod GivenMerges
 pub mod InsideSteps
+mod KeptMerges
 mod LostCopies
 mod MaySending
 mod MovedCopies

@@ -1,5 +1,6 @@
 pub mod CopyTurns
 pub mod MergePaths
+pub mod MergesKept
 pub mod Running
 pub mod Sending
 pub mod TaskCalls

@@ -16,7 +16,6 @@ use Rattle.script_serving.specs.Refusals.{put_publishes}
 use Rattle.history_rules.specs.declared.cause.Cause.{Cause}
 use Rattle.history_rules.specs.declared.cause.Cause.TheVariants.{Nothing, NamesSpent}
 use Rattle.history_rules.specs.declared.entry.Event.TheVariants.{Merging}
-use Rattle.history_rules.specs.Nodes.{primary_of}
 use Rattle.history_rules.specs.Points.{names_drawn}
 use Rattle.history_book.specs.declared.inner.Inner.TheVariants.{MergeOut, MergeEnd, JobBegun, FileOut, TaskOut, TaskEnd}
 use Rattle.history_book.specs.declared.inner.Step.{Step}
@@ -32,9 +31,8 @@ use Rattle.merge_tasks.specs.TaskLog.{inputs_out, merge_task, carried_out}
 use Rattle.merge_tasks.specs.Board.{open_merge, spread_at, with_spread, without_merge, sent_left, sent_less, posts_of, post_after, posted_merge, step_of, IsToldKind}
 use Rattle.cluster_nodes.specs.declared.tasks.FileTask.{FileTask}
 use Rattle.cluster_state.specs.Run.{Run, IsNow}
-use Rattle.cluster_state.specs.Met.{failures_by_plan, has_risen}
 use Rattle.cluster_state.specs.DueFaults.{with_due}
-use Rattle.cluster_state.specs.GivesUp.{task_met_log}
+use Rattle.cluster_state.specs.GivesUp.{task_met_log, disk_failed, PrimaryFails}
 use Rattle.cluster_state.specs.Settles.{AreReplicas}
 use Rattle.cluster_state.specs.Merging.{IsFitKind}
 
@@ -141,19 +139,9 @@ pub record EndsMerge (line : LineNo) (seg : SegNo) (by : Option At) (step : Step
   pub ends : IsBoard old new (kept (TaskEnd line seg by step true) ∷ kept (MergeEnd seg cut) ∷ task_met_log at old new) (without_merge seg.0 old.rest.tasks.rows) old.rest.tasks.posted
   pub cut_is : new.rest.cut ≡ cut_after cut old.rest.cut
 
--- the disk of this node failed
-abbrev pub NodeFails : NodeNo → Run → Run → Type 0
-NodeFails n old new = has_risen n.0 1 (map failures_by_plan old.rest.plans) (map failures_by_plan new.rest.plans) ≡ true
-
--- the primary's disk failed
-pub record PrimaryFails (old new : Run) : Type 0 where
-  pub p : NodeNo
-  pub primary : primary_of (printed old.log) ≡ Some p
-  pub risen : NodeFails p old new
-
 -- a copy has ended, as the disk of the primary or of its node failed
 abbrev pub FailsCopy : LineNo → SegNo → Option At → NodeNo → ℕ → Run → Run → Type 0
-FailsCopy line seg by n job old new = EndsCopyTask line seg by n job old new × (PrimaryFails old new ⊎ NodeFails n old new)
+FailsCopy line seg by n job old new = EndsCopyTask line seg by n job old new × (PrimaryFails old new ⊎ (disk_failed n.0 old new ≡ true))
 
 -- a merge was given up, as the primary's disk failed
 pub record GivesUp (line : LineNo) (seg : SegNo) (by : Option At) (step : Step) (old new : Run) : Type 0 where

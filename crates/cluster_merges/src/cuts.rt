@@ -10,6 +10,7 @@ ghost use Rattle.cluster_state.specs.Run.{IsEnded};
 ghost use Rattle.cluster_merges.specs.Running.{AllShown};
 ghost use Rattle.cluster_merges.specs.TaskMet.{mets, EndsMergeOf, GivesUpOf};
 ghost use Rattle.cluster_merges.specs.MergePaths.{CutsOver};
+ghost use Rattle.cluster_merges.specs.MergesKept.{KeepsButCut, TellsButSizes};
 
 use crate::met::end_behind;
 use cluster_nodes::{NodePlace, Went};
@@ -46,6 +47,7 @@ fn cut_there<D: FaultDir + Drop>(
         ledger.old ledger.new tasks.old tasks.new places.old.items places.new.items)
         (GivesUpOf D.planned p at line seg by Step.Cut
         ledger.old ledger.new tasks.old tasks.new places.old.items places.new.items)) }
+    ensures rest { OnOk result (TellsButSizes places.old.items places.new.items) }
     ensures err { OnErr result (ledger.new ≡ ledger.old) }
 {
     files_last();
@@ -85,6 +87,7 @@ pub fn cut_merge<D: FaultDir + Drop>(
     requires copied { is_copied (spread_at (open_merge seg.0 cluster.old.rest.tasks.rows)) ≡ true }
     requires calm { publish_in_flight (printed cluster.old.log) ≡ None }
     ensures ok { OnOk result (CutsOver line seg by cluster.old cluster.new) }
+    ensures rest { OnOk result (KeepsButCut cluster.old cluster.new) }
     ensures err { OnErr result (IsEnded cluster.old cluster.new) }
 {
     let Some(at) = cluster.ledger.merge_on(seg) else {

@@ -6,6 +6,7 @@ ghost use Rattle.history_book.specs.Log.{printed, shown};
 ghost use Rattle.history_book.specs.Told.{counted_for};
 ghost use Rattle.cluster_state.specs.Run.{IsEnded};
 ghost use Rattle.cluster_merges.specs.MergePaths.{IsBoard};
+ghost use Rattle.cluster_merges.specs.MergesKept.{KeepsButTasks};
 
 use cluster_state::ClusterState;
 use disk_model::FaultDir;
@@ -25,6 +26,7 @@ pub fn note_drained<D: FaultDir + Drop>(
     ensures ok { OnOk result (IsBoard cluster.old cluster.new
         (shown at (Event.Drained done most) ∷ cluster.old.log)
         cluster.old.rest.tasks.rows cluster.old.rest.tasks.posted) }
+    ensures rest { OnOk result (KeepsButTasks cluster.old cluster.new) }
     ensures err { OnErr result (IsEnded cluster.old cluster.new) }
 {
     let book = cluster.ledger.book();

@@ -1,4 +1,5 @@
-//! Merges of a cluster: their tasks, from the start to the cut-over.
+//! Merges of a cluster: their tasks, from the start to the cut-over. Each kind of path is a crate of its own, so that a change of one
+//! proves no other again.
 #![tactic(auto)]
 
 mod cuts;

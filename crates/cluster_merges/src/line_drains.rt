@@ -1,11 +1,12 @@
 //! Drains: how many tasks count for a line, and its reply.
 
-ghost use Rattle.std.specs.Prelude.{◌≡◌, ◌≤◌, [], false, IfOk, OnErr};
+ghost use Rattle.std.specs.Prelude.{◌≡◌, ◌≤◌, [], false, IfOk, OnOk, OnErr};
 ghost use Rattle.history_rules.specs.Lines.{entries_of_line};
 ghost use Rattle.history_book.specs.Log.{printed};
 ghost use Rattle.history_book.specs.Told.{counted_for};
 ghost use Rattle.cluster_state.specs.Run.{IsEnded};
 ghost use Rattle.cluster_merges.specs.TaskCalls.{DrainTurns};
+ghost use Rattle.cluster_merges.specs.MergesKept.{KeepsButTasks};
 
 use crate::drains::note_drained;
 use cluster_state::{ClusterState, Turn};
@@ -31,6 +32,7 @@ pub fn drained<D: FaultDir + Drop>(
     requires fresh { entries_of_line at (printed state.old.log) ≡ [] }
     requires few { counted_for at state.old.log ≤ most }
     ensures ok { IfOk result (DrainTurns at most state.old state.new) }
+    ensures rest { OnOk result (KeepsButTasks state.old state.new) }
     ensures err { OnErr result (IsEnded state.old state.new) }
 {
     let done = counted(state, at);

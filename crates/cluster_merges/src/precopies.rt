@@ -16,6 +16,7 @@ ghost use Rattle.cluster_state.specs.MergedCopies.{place_copies};
 ghost use Rattle.cluster_merges.specs.Running.{AllShown};
 ghost use Rattle.cluster_merges.specs.TaskMet.{mets, behind};
 ghost use Rattle.cluster_merges.specs.MergePaths.{EndsCopyTask, FailsCopy, MeetsFaults};
+ghost use Rattle.cluster_merges.specs.MergesKept.{KeepsButCopies, KeepsButEnded, TellsButCopies, TellsButEnded};
 ghost use Rattle.cluster_merges.specs.CopyTurns.{IsTurnWhere, EndsCopyOf, FailsCopyOf, MeetsOf, StepsCopyTo, TurnsCopy};
 
 use crate::met::{must_merge, show_task_due};
@@ -142,6 +143,8 @@ fn settle_copy<D: FaultDir + Drop>(
     ensures turn { IfOk result (IsTurnWhere
         (misses_file seg.0 job (place_copies (place_of places.old.items n.0)))
         (job_at n.0 ledger.old.log)) }
+    ensures cut { OnOk result (ledger.new.cut ≡ ledger.old.cut) }
+    ensures rest { IfOk result (TellsButEnded n.0 places.old.items places.new.items) }
     ensures err { OnErr result (ledger.new ≡ ledger.old) }
 {
     match settle_in(alloc, places, n, job)? {
@@ -189,6 +192,8 @@ fn hand_file<D: FaultDir + Drop>(
     ensures turn { IfOk result (IsTurnWhere
         (misses_file seg.0 job (place_copies (place_of places.old.items n.0)))
         (job_at n.0 ledger.old.log)) }
+    ensures cut { OnOk result (ledger.new.cut ≡ ledger.old.cut) }
+    ensures rest { IfOk result (TellsButEnded n.0 places.old.items places.new.items) }
     ensures err { OnErr result (ledger.new ≡ ledger.old) }
 {
     match read_in(places, p, &name)? {
@@ -252,6 +257,8 @@ fn step_copy<D: FaultDir + Drop>(
     ensures turn { IfOk result (IsTurnWhere
         (misses_file seg.0 job (place_copies (place_of places.old.items n.0)))
         (job_at n.0 ledger.old.log)) }
+    ensures cut { OnOk result (ledger.new.cut ≡ ledger.old.cut) }
+    ensures rest { IfOk result (TellsButEnded n.0 places.old.items places.new.items) }
     ensures err { OnErr result (ledger.new ≡ ledger.old) }
 {
     match step_in(alloc, places, n, job, seg)? {
@@ -291,6 +298,7 @@ pub fn next_merged<D: FaultDir + Drop>(
     ensures ok { IfOk result (TurnsCopy line seg by n job cluster.old cluster.new) }
     ensures turn { IfOk result (IsTurnWhere (misses_at seg.0 n.0 job cluster.old)
         (job_at n.0 cluster.old.log)) }
+    ensures rest { IfOk result (KeepsButEnded n.0 cluster.old cluster.new) }
     ensures err { OnErr result (IsEnded cluster.old cluster.new) }
 {
     let Some(at) = cluster.ledger.merge_on(seg) else {
@@ -346,6 +354,8 @@ fn take_there<D: FaultDir + Drop>(
         (FailsCopyOf line seg by n n job before.now (mets D.planned places.new.items)
         (behind at before.now (mets D.planned places.new.items) ledger.old)
         ledger.new tasks.old tasks.new)) }
+    ensures cut { OnOk result (ledger.new.cut ≡ ledger.old.cut) }
+    ensures rest { OnOk result (TellsButCopies n.0 places.old.items places.new.items) }
     ensures err { OnErr result (ledger.new ≡ ledger.old) }
 {
     if !runs_in(places, n, job, seg) {
@@ -384,6 +394,7 @@ pub fn take_merged<D: FaultDir + Drop>(
     requires meta { IsMetaOf part.bytes part.meta }
     ensures ok { IfOk result (ByWent (λ done. MeetsFaults seg cluster.old cluster.new)
         (FailsCopy line seg by n job cluster.old cluster.new)) }
+    ensures rest { OnOk result (KeepsButCopies n.0 cluster.old cluster.new) }
     ensures err { OnErr result (IsEnded cluster.old cluster.new) }
 {
     cluster.ledger.book().is_legal();
@@ -433,6 +444,7 @@ fn end_there<D: FaultDir + Drop>(
     ensures ok { OnOk result (EndsCopyOf line seg by n job
         (behind at before.now (mets D.planned places.new.items) ledger.old) ledger.new
         tasks.old tasks.new) }
+    ensures rest { OnOk result (TellsButCopies n.0 places.old.items places.new.items) }
     ensures err { OnErr result (ledger.new ≡ ledger.old) }
 {
     drop_in(places, n, job);
@@ -463,6 +475,7 @@ fn lose_there<D: FaultDir + Drop>(
     ensures ok { OnOk result (EndsCopyOf line seg by n job
         (behind at before.now (mets D.planned places.new.items) ledger.old) ledger.new
         tasks.old tasks.new) }
+    ensures rest { OnOk result (TellsButCopies n.0 places.old.items places.new.items) }
     ensures err { OnErr result (ledger.new ≡ ledger.old) }
 {
     if !runs_in(places, n, job, seg) {
@@ -487,6 +500,7 @@ pub fn lose_merged<D: FaultDir + Drop>(
     requires sent { has_copy_task n.0 job
         (spread_at (open_merge seg.0 cluster.old.rest.tasks.rows)) ≡ true }
     ensures ok { OnOk result (EndsCopyTask line seg by n job cluster.old cluster.new) }
+    ensures rest { OnOk result (KeepsButCopies n.0 cluster.old cluster.new) }
     ensures err { OnErr result (IsEnded cluster.old cluster.new) }
 {
     cluster.ledger.book().is_legal();

@@ -1,11 +1,12 @@
 //! Merges that start.
 
-ghost use Rattle.std.specs.Prelude.{◌≡◌, ◌≢◌, ◌≤◌, [], false, Some, IfOk, OnErr};
+ghost use Rattle.std.specs.Prelude.{◌≡◌, ◌≢◌, ◌≤◌, [], false, Some, IfOk, OnOk, OnErr};
 ghost use Rattle.history_rules.specs.Nodes.{IsNode, primary_of};
 ghost use Rattle.history_rules.specs.Lines.{entries_of_line};
 ghost use Rattle.history_book.specs.Log.{printed};
 ghost use Rattle.cluster_state.specs.Run.{IsEnded};
 ghost use Rattle.cluster_merges.specs.MergePaths.{StartsMergeFor};
+ghost use Rattle.cluster_merges.specs.MergesKept.{KeepsButSizes};
 
 use cluster_nodes::PublishFault;
 use cluster_state::ClusterState;
@@ -44,6 +45,7 @@ pub fn start_merge<D: FaultDir + Drop>(
     requires primary { primary_of (printed cluster.old.log) ≡ Some p }
     requires factor { 2 ≤ factor }
     ensures ok { IfOk result (StartsMergeFor at factor cluster.old cluster.new) }
+    ensures rest { OnOk result (KeepsButSizes cluster.old cluster.new) }
     ensures err { OnErr result (IsEnded cluster.old cluster.new) }
 {
     let book = cluster.ledger.book();

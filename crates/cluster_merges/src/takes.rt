@@ -1,8 +1,9 @@
 //! Tasks that are taken.
 
-ghost use Rattle.std.specs.Prelude.{◌≡◌, false, IfOk, OnErr};
+ghost use Rattle.std.specs.Prelude.{◌≡◌, false, IfOk, OnOk, OnErr};
 ghost use Rattle.cluster_state.specs.Run.{IsEnded};
 ghost use Rattle.cluster_merges.specs.MergePaths.{TakesTask};
+ghost use Rattle.cluster_merges.specs.MergesKept.{KeepsButTasks};
 
 use cluster_state::ClusterState;
 use disk_model::FaultDir;
@@ -17,6 +18,7 @@ pub fn take_task<D: FaultDir + Drop>(
 ) -> Result<Option<Task>, NoMemory>
     requires running { cluster.old.ended ≡ false }
     ensures ok { IfOk result (TakesTask by cluster.old cluster.new) }
+    ensures rest { OnOk result (KeepsButTasks cluster.old cluster.new) }
     ensures err { OnErr result (IsEnded cluster.old cluster.new) }
 {
     cluster.ended = true;

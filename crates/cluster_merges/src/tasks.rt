@@ -10,6 +10,7 @@ ghost use Rattle.merge_tasks.specs.Board.{open_merge, is_unwritten};
 ghost use Rattle.cluster_state.specs.DueFaults.{ArrivesBy};
 ghost use Rattle.cluster_state.specs.Run.{IsEnded};
 ghost use Rattle.cluster_merges.specs.MergePaths.{IsMergedOut, EndsBuild, TakesTask};
+ghost use Rattle.cluster_merges.specs.MergesKept.{KeepsButTasks, KeepsButSizes, KeepsButCut, KeepsButCopies, KeepsCopyTurn};
 ghost use Rattle.cluster_merges.specs.TaskCalls.{MergeLine, StartsAtPrimary, PrecopyTurns, PartTurns, CutTurns};
 
 use crate::cuts::cut_merge;
@@ -41,6 +42,7 @@ fn start_at<D: FaultDir + Drop>(
     requires primary { primary_of (printed state.old.log) ≡ Some p }
     requires factor { 2 ≤ factor }
     ensures ok { OnOk result (StartsAtPrimary at factor state.old state.new) }
+    ensures rest { OnOk result (KeepsButSizes state.old state.new) }
     ensures err { OnErr result (IsEnded state.old state.new) }
 {
     match start_merge(alloc, state, at, p, factor)? {
@@ -63,6 +65,7 @@ pub fn merge_start<D: FaultDir + Drop>(
     requires fresh { entries_of_line at (printed state.old.log) ≡ [] }
     requires factor { 2 ≤ factor }
     ensures ok { OnOk result (MergeLine at factor state.old state.new) }
+    ensures rest { OnOk result (KeepsButSizes state.old state.new) }
     ensures err { OnErr result (IsEnded state.old state.new) }
 {
     let Some(p) = state.primary() else {
@@ -79,6 +82,7 @@ pub fn task_take<D: FaultDir + Drop>(
 ) -> Result<Option<Task>, NoMemory>
     requires running { state.old.ended ≡ false }
     ensures ok { IfOk result (TakesTask by state.old state.new) }
+    ensures rest { OnOk result (KeepsButTasks state.old state.new) }
     ensures err { OnErr result (IsEnded state.old state.new) }
 {
     take_task(state, by)
@@ -123,6 +127,7 @@ pub fn precopy_next<D: FaultDir + Drop>(
     requires running { state.old.ended ≡ false }
     requires node { IsNode state.old.nodes n.0 }
     ensures ok { IfOk result (PrecopyTurns line seg by n job state.old state.new) }
+    ensures rest { IfOk result (KeepsCopyTurn n.0 state.old state.new) }
     ensures err { OnErr result (IsEnded state.old state.new) }
 {
     if !state.tasks.has_copy_task(seg, n, job) {
@@ -157,6 +162,7 @@ pub fn precopy_arrived<D: FaultDir + Drop>(
     requires meta { IsMetaOf file.now.source file.now.meta }
     requires arrives { ArrivesBy file.now arrived }
     ensures ok { IfOk result (PartTurns line seg by n job file.now.fate state.old state.new) }
+    ensures rest { OnOk result (KeepsButCopies n.0 state.old state.new) }
     ensures err { OnErr result (IsEnded state.old state.new) }
 {
     if !state.tasks.has_copy_task(seg, n, job) {
@@ -187,6 +193,7 @@ pub fn merge_cut<D: FaultDir + Drop>(
 ) -> Result<Turn<()>, NoMemory>
     requires running { state.old.ended ≡ false }
     ensures ok { IfOk result (CutTurns line seg by state.old state.new) }
+    ensures rest { OnOk result (KeepsButCut state.old state.new) }
     ensures err { OnErr result (IsEnded state.old state.new) }
 {
     if !state.tasks.is_copied(seg) {

@@ -2,17 +2,10 @@
 use Rattle.std.specs.Prelude.{List, Option, Some, None}
 use Rattle.disk_model.specs.Disk.{Name, Cells}
 pub use Rattle.disk_model.specs.Listed.{AreNamesOf}
-use Rattle.cluster_nodes.specs.declared.nodes.Node.{Node}
-use Rattle.cluster_nodes.specs.declared.nodes.Node.TheVariants.{Primary, Replica, Down}
 use Rattle.cluster_nodes.specs.declared.nodes.NodePlace.{NodePlace}
+use Rattle.cluster_nodes.specs.Places.{dir_of}
 
 module _ {D : Type 0} where
-  -- a node's directory
-  abbrev pub dir_of : Node D → D
-  dir_of (Primary p) = p.dir
-  dir_of (Replica r) = r.dir
-  dir_of (Down d) = d
-
   -- the names are those of the node that is there
   abbrev pub AreNamesAt : (D → Cells) → Option (NodePlace D) → List Name → Type 0
   AreNamesAt cells None names = ⊥

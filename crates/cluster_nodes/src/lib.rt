@@ -24,7 +24,7 @@ pub use faults::{plan_in, stop_in};
 pub use held::HeldKey;
 pub use index_primary::{FlushTask, FlushWork, Primary, PublishFault};
 pub use lists::names_in;
-pub use lives::{crash_in, reopen_in};
+pub use lives::{crash_in, dir_in, reopen_in};
 pub use nodes::{Node, NodePlace, primary_in, put, take};
 pub use promoting::promote_in;
 pub use readers::readers_in;

@@ -19,8 +19,8 @@ use nrt_base::{NoMemory, NodeNo, Version};
 use replica_node::{Refused, Replica, StartFault};
 use std::alloc::{AllocError, Global};
 
-// The directory of a node.
-fn dir_in<D: Dir + Drop>(node: Node<D>) -> D
+/// The directory of a node.
+pub fn dir_in<D: Dir + Drop>(node: Node<D>) -> D
     ensures { result ≡ dir_of node }
 {
     match node {

@@ -4,7 +4,7 @@ ghost use Rattle.std.specs.Prelude.{◌≡◌, None, Some, true, is_some, IsSome
 ghost use Rattle.searcher_switch.specs.Tickets.{ticket_at, tickets_without};
 ghost use Rattle.searcher_switch.specs.Searching.{IsLeaseOf};
 ghost use Rattle.cluster_nodes.specs.Held.{held_number};
-ghost use Rattle.cluster_nodes.specs.Places.{place_of, IsSlot, searchers_of, tickets_of};
+ghost use Rattle.cluster_nodes.specs.Places.{place_of, IsSlot, dir_of, searchers_of, tickets_of};
 ghost use Rattle.cluster_nodes.specs.KeptFiles.{KeepsNodeFiles};
 ghost use Rattle.cluster_nodes.specs.Changes.{KeepsNode, OpensTicket, HoldsMore, HoldsLess, HoldsTicket, IsLeaseUnder};
 
@@ -21,6 +21,7 @@ fn acquire<D: Dir + Drop>(alloc: Global, node: &mut Node<D>) -> Result<u64, NoMe
     requires { IsSome (searchers_of node.old) }
     ensures keeps { OnOk result (KeepsNode D.cells node.old node.new) }
     ensures files { OnOk result (KeepsNodeFiles D.cells node.old node.new) }
+    ensures dir { OnOk result (dir_of node.new ≡ dir_of node.old) }
     ensures opens { IfOk result (λ number. OpensTicket number node.old node.new) }
 {
     match node {
@@ -59,6 +60,7 @@ pub fn hold_ticket<D: Dir + Drop>(
     requires { IsSome (searchers_of place.old.node) }
     ensures keeps { OnOk result (KeepsNode D.cells place.old.node place.new.node) }
     ensures files { OnOk result (KeepsNodeFiles D.cells place.old.node place.new.node) }
+    ensures dir { OnOk result (dir_of place.new.node ≡ dir_of place.old.node) }
     ensures holds { OnOk result (HoldsMore key place.old place.new) }
 {
     let number = acquire(alloc, &mut place.node)?;

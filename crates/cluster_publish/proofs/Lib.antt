@@ -2,6 +2,7 @@ mod CutRows
 mod Cuts
 mod Filling
 pub mod GivenUp
+mod KeptPoint
 mod MetStands
 mod MetWords
 mod Primaries

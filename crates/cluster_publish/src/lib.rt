@@ -1,4 +1,4 @@
-//! Writes and publishes of a cluster.
+//! Writes and publishes of a cluster. Each kind of path is a crate of its own, so that a change of one proves no other again.
 #![tactic(auto)]
 
 mod publishes;

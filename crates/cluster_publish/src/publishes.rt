@@ -11,6 +11,7 @@ ghost use Rattle.cluster_state.specs.Run.{IsNow, KeepsRest, IsEnded};
 ghost use Rattle.cluster_state.specs.Writes.{IsFlushed};
 ghost use Rattle.cluster_state.specs.Calls.{by_refusal, cut_refusal as cut_refusal_lem, LineRefused, PublishStarts};
 ghost use Rattle.cluster_state.specs.GivesUp.{EndsPublish};
+ghost use Rattle.cluster_state.specs.Keeping.{KeepsButPoint};
 
 use crate::writes::{accept_at, end_publish, start_publish};
 use cluster_state::{ClusterState, Turn, refuse, refuse_turn};
@@ -122,6 +123,7 @@ pub fn publish_end<D: FaultDir + Drop>(
     requires started { last_of_line at (printed state.old.log) ≡ Some Event.Publishing }
     requires work { IsFlushed at state.old.log work }
     ensures ok { OnOk result (EndsPublish at state.old state.new) }
+    ensures rest { OnOk result (KeepsButPoint state.old state.new) }
     ensures err { OnErr result (IsEnded state.old state.new) }
 {
     state.book().is_started(at, &Event::Publishing);
@@ -151,6 +153,7 @@ fn finish_publish<D: FaultDir + Drop>(
         == primary_crashes (before_start at (printed state.old.log))) ≡ true }
     requires work { IsFlushed at state.old.log work }
     ensures ok { OnOk result (EndsPublish at state.old state.new) }
+    ensures rest { OnOk result (KeepsButPoint state.old state.new) }
     ensures err { OnErr result (IsEnded state.old state.new) }
 {
     end_publish(alloc, state, at, p, work)?;
@@ -165,6 +168,7 @@ fn lose_publish<D: FaultDir + Drop>(state: &mut ClusterState<D>, at: At) -> Resu
     requires lost { (primary_crashes (printed state.old.log)
         == primary_crashes (before_start at (printed state.old.log))) ≡ false }
     ensures ok { OnOk result (LineRefused at Cause.Lost state.old state.new) }
+    ensures rest { OnOk result (KeepsRest state.old state.new) }
     ensures err { OnErr result (IsEnded state.old state.new) }
 {
     state.book().is_legal();

@@ -14,11 +14,12 @@ ghost use Rattle.cluster_state.specs.Met.{ArePlanned, met_in, with_met, has_rise
 ghost use Rattle.cluster_state.specs.Run.{IsNow, KeepsRest, IsEnded};
 ghost use Rattle.cluster_state.specs.Writes.{StartsPublish, IsFlushed};
 ghost use Rattle.cluster_state.specs.GivesUp.{PublishEnds};
+ghost use Rattle.cluster_state.specs.Keeping.{KeepsButPoint};
 
 use cluster_nodes::{
     FlushTask, FlushWork, Node, NodePlace, PublishFault, files_last, primary_in, put, take,
 };
-use cluster_state::{ClusterState, are_planned, has_risen, kinds_in, show_met};
+use cluster_state::{ClusterState, are_planned, has_risen, met_before, show_met};
 use disk_model::FaultDir;
 use documents::Op;
 use history_book::Inner;
@@ -245,6 +246,7 @@ pub fn end_publish<D: FaultDir + Drop>(
     requires flight { publish_in_flight (printed cluster.old.log) ≡ Some at }
     requires work { IsFlushed at cluster.old.log work }
     ensures ok { IfOk result (PublishEnds at cluster.old cluster.new) }
+    ensures rest { OnOk result (KeepsButPoint cluster.old cluster.new) }
     ensures err { OnErr result (IsEnded cluster.old cluster.new) }
 {
     let book = cluster.ledger.book();
@@ -259,11 +261,7 @@ pub fn end_publish<D: FaultDir + Drop>(
     if newest >= (1 << 63) - 1 {
         return Err(AllocError);
     }
-    let before = kinds_in(alloc, cluster.places.as_slice())?;
-    if before.len() > u8::MAX as usize {
-        return Err(AllocError);
-    }
-    cluster.ledger.reserve(2 * before.len() + 1)?;
+    let before = met_before(alloc, &mut cluster.ledger, &cluster.places, 1)?;
     let (mut primary, held) = primary_in(take(&mut cluster.places, p));
     let ended = primary.publish_end(alloc, work);
     let node = Node::Primary(primary);

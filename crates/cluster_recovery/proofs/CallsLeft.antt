@@ -121,7 +121,7 @@ module _ {D : Type 0} (cells : D → Cells) where
   told None z none = absurd (none-some z none)
   told (Some place) z is = ap (λ (p : Option (NodePlace D)). Some (place_calls p)) is
 
-  calls_there : (n : ℕ) (r : Run) (carries : List Bool) (places : List (Option (NodePlace D))) (z : NodePlace D) → r.rest.calls_left ≡ calls_in carries places → place_of places n ≡ Some z
+  pub calls_there : (n : ℕ) (r : Run) (carries : List Bool) (places : List (Option (NodePlace D))) (z : NodePlace D) → r.rest.calls_left ≡ calls_in carries places → place_of places n ≡ Some z
       → calls_at n r ≡ book_calls (disk_of z.node).book + own_calls (has_own n carries)
   calls_there zero r carries places z is there = absurd (none-some z there)
   calls_there (suc k) r carries places z is there =

@@ -2,7 +2,7 @@
 use Rattle.std.proofs.Common.{◌≡◌, ◌∙◌, ◌==◌, ℕ, Bool, true, false, List, [], ◌∷◌, Some, None, Option, length, refl, ap, sym, subst, if◌then◌else◌}
 use Rattle.nrt_base.specs.declared.numbers.At.{At}
 use Rattle.nrt_base.specs.declared.numbers.NodeNo.{NodeNo}
-use Rattle.disk_model.specs.Disk.{Cells}
+use Rattle.disk_model.specs.Disk.{Cells, Image, restarted}
 use Rattle.disk_model.specs.Faults.{Plans, ended}
 use Rattle.std.specs.Prelude.{not, IsSomeAnd}
 use Rattle.history_rules.specs.declared.entry.Event.TheVariants.{Crashed}
@@ -17,12 +17,14 @@ use Rattle.merge_tasks.specs.Board.{Board}
 use Rattle.cluster_nodes.specs.declared.nodes.Node.{Node}
 use Rattle.cluster_nodes.specs.declared.nodes.Node.TheVariants.{Down}
 use Rattle.cluster_nodes.specs.declared.nodes.NodePlace.{NodePlace}
-use Rattle.cluster_nodes.specs.Lives.{CrashesIn, EndsPlansIn}
+use Rattle.cluster_nodes.specs.Lives.{CrashesIn, EndsPlansIn, CrashesByPick}
 use Rattle.cluster_recovery.specs.Falls.{PlaceLoses, Falls}
 use Rattle.cluster_nodes.specs.Outs.{want_at}
 use Rattle.cluster_nodes.specs.Places.{place_of, dir_of}
 use Rattle.cluster_state.specs.JobsIn.{place_files, jobs_in}
-use Rattle.cluster_state.specs.LifeCalls.{crashed_tasks}
+use Rattle.cluster_state.specs.LifeCalls.{crashed_tasks, CrashesDir}
+use Rattle.cluster_state.specs.Met.{ClusterStands}
+use Rattle.cluster_state.specs.NodeDirs.{IsNodeDir}
 use Rattle.cluster_state.specs.PlansIn.{place_plans, plans_in}
 use Rattle.cluster_state.proofs.MetStands.{plans_are}
 use Rattle.cluster_state.proofs.JobsLeft.{files_are}
@@ -169,3 +171,33 @@ module _ {D : Type 0} (cells : D → Cells) (planned : D → Plans) where
       kept : (t : Bool) → is_at primary n.0 ≡ t → place_plans planned (place_of new n.0) ≡ place_plans planned (place_of mid n.0)
       kept true e = of_down (place_of new n.0) (subst (λ (o : Option (NodePlace D)). PlaceLoses cells n.0 board.rows o (place_of new n.0)) b.here ((falls e).lose.each n.0)) ∙ ap (place_plans planned) (sym b.here)
       kept false e = ap (λ (l : List (Option (NodePlace D))). place_plans planned (place_of l n.0)) (stays e).1
+
+module _ {D : Type 0} (cells : D → Cells) (leaves : D → ℕ → Image) where
+  -- the node's directory is what the crash with this number leaves of it
+  pub crash_dir : (r x : Run) (old mid new : List (Option (NodePlace D))) (primary : Option NodeNo) (n : NodeNo) (pick : ℕ) (board now : Board) → ((place : NodePlace D) → place_of old n.0 ≡ Some place → IsNodeDir cells r n.0 (dir_of place.node)) → ClusterStands cells x.nodes new x.rest.cut x.rest.tasks x.log
+      → CrashesIn cells primary n.0 old mid → CrashesByPick cells leaves n.0 pick old mid → (is_at primary n.0 ≡ true → Falls cells board now mid new) → (is_at primary n.0 ≡ false → (now ≡ board) × (new ≡ mid)) → CrashesDir cells leaves n.0 pick r x
+  crash_dir r x old mid new primary n pick board now before stands b picked falls stays = record {
+    dir = dir_of b.place.node;
+    was = before b.place b.there;
+    now = b.dir;
+    is = at_new (place_of new n.0) refl (kept (is_at primary n.0) refl);
+    left = of_places (place_of old n.0) (place_of mid n.0) b.there b.here picked;
+  }
+    where
+      of_places : (o w : Option (NodePlace D)) → o ≡ Some b.place → w ≡ Some (record { node = Down b.dir; held = b.held }) → IsSomeAnd o (λ y. IsSomeAnd w (λ z. cells (dir_of z.node) ≡ restarted (leaves (dir_of y.node) pick)))
+          → cells b.dir ≡ restarted (leaves (dir_of b.place.node) pick)
+      of_places o w there here is =
+          subst (λ (v : Option (NodePlace D)). IsSomeAnd v (λ z. cells (dir_of z.node) ≡ restarted (leaves (dir_of b.place.node) pick))) here
+          (subst (λ (u : Option (NodePlace D)). IsSomeAnd u (λ y. IsSomeAnd w (λ z. cells (dir_of z.node) ≡ restarted (leaves (dir_of y.node) pick)))) there is)
+
+      of_down : (o : Option (NodePlace D)) → PlaceLoses cells n.0 board.rows (Some (record { node = Down b.dir; held = b.held })) o → IsSomeAnd o (λ z. b.dir ≡ dir_of z.node)
+      of_down None none = absurd none
+      of_down (Some y) is = sym (ap (λ (z : Node D). dir_of z) is.1)
+
+      kept : (t : Bool) → is_at primary n.0 ≡ t → IsSomeAnd (place_of new n.0) (λ z. b.dir ≡ dir_of z.node)
+      kept true e = of_down (place_of new n.0) (subst (λ (o : Option (NodePlace D)). PlaceLoses cells n.0 board.rows o (place_of new n.0)) b.here ((falls e).lose.each n.0))
+      kept false e = subst (λ (o : Option (NodePlace D)). IsSomeAnd o (λ z. b.dir ≡ dir_of z.node)) (sym (ap (λ (l : List (Option (NodePlace D))). place_of l n.0) (stays e).1 ∙ b.here)) refl
+
+      at_new : (o : Option (NodePlace D)) → place_of new n.0 ≡ o → IsSomeAnd o (λ z. b.dir ≡ dir_of z.node) → IsNodeDir cells x n.0 b.dir
+      at_new None e none = absurd none
+      at_new (Some z) e is = record { places = new; stands = stands; place = z; there = e; is = is }

@@ -85,7 +85,7 @@ module _ {D : Type 0} (cells : D → Cells) (rows : List OpenMerge) where
       by (Primary p) v ends = ap want ends
       by (Down d) v ends = ap want ends
 
-  same_disk : (m : ℕ) (x y : Node D) → NodeLoses cells m rows x y → disk_of y ≡ disk_of x
+  pub same_disk : (m : ℕ) (x y : Node D) → NodeLoses cells m rows x y → disk_of y ≡ disk_of x
   same_disk m (Replica r) (Replica s) ends = disk_same r.commits s.commits (ap (λ (z : ReplicaParts D). z.commits) ends.loses.others)
   same_disk m (Replica r) (Primary q) ends = ap disk_of ends
   same_disk m (Replica r) (Down e) ends = ap disk_of ends

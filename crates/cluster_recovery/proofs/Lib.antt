@@ -9,8 +9,11 @@ mod FallenMerges
 mod FirstMerges
 mod FirstNodes
 mod FirstPlaces
+mod KeptCrash
+mod KeptLives
 mod MetLives
 mod MetOnce
+mod NodeDirs
 mod Outliving
 mod PromoteRows
 mod PromotedMerges

@@ -277,6 +277,13 @@ opens_there cells source past n dir d = by d.number d.finds
         let stands = d.point.point.stands in
         inr (opens_commit (reads_of (cells dir)) k d.infos stands.segs finds (λ q named. (d.sourced q named).1) (segments_along source (reads_of (cells dir)) d.infos.segs stands.segs (λ q named. (d.sourced q named).0) stands.stands.each))
 
+-- what the directory of a node that is down is
+pub down_dir : {D : Type 0} (cells : D → Cells) (source : Name → Content) (log : Log) (n : ℕ) (x : Node D) → is_running n (printed log) ≡ false → NodeShows cells log n x
+    → DiskShows source cells (printed log) n (disk_of x) → DirShows source cells (printed log) n (dir_of x)
+down_dir cells source log n (Primary p) down is disk = absurd (true≢false (sym is.running ∙ down))
+down_dir cells source log n (Replica r) down is disk = absurd (true≢false (sym is.running ∙ down))
+down_dir cells source log n (Down d) down is disk = disk.dir
+
 -- ---- all nodes
 
 module _ {D : Type 0} (cells : D → Cells) (size : ℕ) (log : Log) (old new : List (Option (NodePlace D))) (at : At) (n : NodeNo) (v : Version) (lasting : FilesLast)
@@ -287,17 +294,12 @@ module _ {D : Type 0} (cells : D → Cells) (size : ℕ) (log : Log) (old new : 
 
   -- what the directory of the node is
   dir_at : (place : NodePlace D) → place_of old n.0 ≡ Some place → DirShows files.source cells (printed log) n.0 (dir_of place.node)
-  dir_at place there = dir_of_node place.node (some_at (Both cells files.source log jobs n.0) (place_of old n.0) place there (both_of cells log size old shows files n.0 node)).0.node_shows
+  dir_at place there = down_dir cells files.source log n.0 place.node down (some_at (Both cells files.source log jobs n.0) (place_of old n.0) place there (both_of cells log size old shows files n.0 node)).0.node_shows
       (some_at (λ z. DiskShows files.source cells (printed log) n.0 (disk_of z.node)) (place_of old n.0) place there (disk_some (place_of old n.0) (files.disks n.0 node)))
     where
       disk_some : (o : Option (NodePlace D)) → IsSomeAnd (disk_at o) (DiskShows files.source cells (printed log) n.0) → IsSomeAnd o (λ z. DiskShows files.source cells (printed log) n.0 (disk_of z.node))
       disk_some None is = is
       disk_some (Some z) is = is
-
-      dir_of_node : (x : Node D) → NodeShows cells log n.0 x → DiskShows files.source cells (printed log) n.0 (disk_of x) → DirShows files.source cells (printed log) n.0 (dir_of x)
-      dir_of_node (Primary p) is disk = absurd (true≢false (sym is.running ∙ down))
-      dir_of_node (Replica r) is disk = absurd (true≢false (sym is.running ∙ down))
-      dir_of_node (Down d) is disk = disk.dir
 
   pub is_settled : (place : NodePlace D) → place_of old n.0 ≡ Some place → IsSettledOn (cells (dir_of place.node))
   is_settled place there = (dir_at place there).settled

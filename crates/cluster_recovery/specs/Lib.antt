@@ -1,4 +1,5 @@
 pub mod Commits
+pub mod Crashes
 pub mod Falls
 pub mod Planning
 pub mod PromoteCalls

@@ -1,6 +1,6 @@
 //! Commits of nodes.
 
-ghost use Rattle.std.specs.Prelude.{◌≡◌, ◌≤◌, ◌+◌, ◌*◌, [], ◌∷◌, false, true, None, Some, OnErr, IfOk, IsSome, length, map};
+ghost use Rattle.std.specs.Prelude.{ℕ, ◌≡◌, ◌≤◌, ◌==◌, ◌+◌, ◌*◌, [], ◌∷◌, false, true, None, Some, OnOk, OnErr, IfOk, IsSome, length, map};
 ghost use Rattle.history_rules.specs.Nodes.{IsNode, is_running};
 ghost use Rattle.history_rules.specs.Lines.{start_entry, entries_of_line, commit_in_flight, is_answered};
 ghost use Rattle.history_rules.specs.Commits.{is_stuck};
@@ -14,10 +14,11 @@ ghost use Rattle.cluster_state.specs.CallsLeft.{has_own};
 ghost use Rattle.cluster_state.specs.Met.{ArePlanned, met_in, with_met, has_risen as has_risen_at};
 ghost use Rattle.cluster_state.specs.Run.{IsEnded};
 ghost use Rattle.cluster_state.specs.Lives.{BeginsCommit, StepsCommit};
+ghost use Rattle.cluster_state.specs.Keeping.{KeepsButCommit};
 ghost use Rattle.cluster_recovery.specs.Commits.{CallsFor};
 
 use cluster_nodes::{CommitTask, NodePlace, Went, begin_commit_in, committing_in, step_commit_in};
-use cluster_state::{ClusterState, are_planned, has_risen, kinds_in, note_met, show_met};
+use cluster_state::{ClusterState, are_planned, has_risen, met_before, note_met, show_met};
 use disk_model::FaultDir;
 use history_book::Book;
 use history_facts::was_searched_since;
@@ -37,7 +38,9 @@ fn has_own_at(carries: &[bool; 255], n: NodeNo) -> bool
 // Notes whether it has.
 pub(crate) fn note_own(carries: &mut [bool; 255], n: NodeNo, own: bool)
     requires { 1 ≤ n.0 }
-    ensures { has_own n.0 carries.new ≡ own }
+    ensures own { has_own n.0 carries.new ≡ own }
+    ensures others { (m : ℕ) → 1 ≤ m → (n.0 == m) ≡ false
+        → has_own m carries.new ≡ has_own m carries.old }
 {
     carries[n.0 as usize - 1] = own;
 }
@@ -57,6 +60,7 @@ pub fn begin_commit<D: FaultDir + Drop>(
     requires up { is_running n.0 (printed cluster.old.log) ≡ true }
     requires free { commit_in_flight n.0 (printed cluster.old.log) ≡ None }
     ensures ok { IfOk result (BeginsCommit at n cluster.old cluster.new) }
+    ensures rest { OnOk result (KeepsButCommit n.0 cluster.old cluster.new) }
     ensures err { OnErr result (IsEnded cluster.old cluster.new) }
 {
     let book = cluster.ledger.book();
@@ -192,6 +196,7 @@ pub fn step_commit<D: FaultDir + Drop>(
     requires flight { commit_in_flight n.0 (printed cluster.old.log) ≡ Some at }
     requires started { start_entry at (printed cluster.old.log) ≡ Some (Event.Committing n v) }
     ensures ok { IfOk result (StepsCommit at n v cluster.old cluster.new) }
+    ensures rest { OnOk result (KeepsButCommit n.0 cluster.old cluster.new) }
     ensures err { OnErr result (IsEnded cluster.old cluster.new) }
 {
     let book = cluster.ledger.book();
@@ -204,11 +209,7 @@ pub fn step_commit<D: FaultDir + Drop>(
     let Some(w) = committing_in(&cluster.places, n) else {
         return Err(AllocError);
     };
-    let before = kinds_in(alloc, cluster.places.as_slice())?;
-    if before.len() > u8::MAX as usize {
-        return Err(AllocError);
-    }
-    cluster.ledger.reserve(2 * before.len() + 1)?;
+    let before = met_before(alloc, &mut cluster.ledger, &cluster.places, 1)?;
     let called = call_for(alloc, &mut cluster.places, n, carries, stuck)?;
     if !are_planned(cluster.ledger.book(), before.as_slice(), &cluster.places) {
         return Err(AllocError);

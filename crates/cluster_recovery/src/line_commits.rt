@@ -5,7 +5,8 @@ ghost use Rattle.history_rules.specs.Nodes.{IsNode, crashes};
 ghost use Rattle.history_rules.specs.Lines.{entries_of_line, last_of_line, start_entry, before_start};
 ghost use Rattle.history_tables.specs.Begins.{open_line};
 ghost use Rattle.history_book.specs.Log.{printed};
-ghost use Rattle.cluster_state.specs.Run.{IsEnded};
+ghost use Rattle.cluster_state.specs.Run.{KeepsRest, IsEnded};
+ghost use Rattle.cluster_state.specs.Keeping.{KeepsButCommit};
 ghost use Rattle.cluster_state.specs.Calls.{LineRefused};
 ghost use Rattle.cluster_state.specs.LifeCalls.{CommitStarts, CommitSteps};
 ghost use Rattle.cluster_recovery.specs.Commits.{turned};
@@ -29,6 +30,7 @@ pub fn commit_start<D: FaultDir + Drop>(
     requires fresh { entries_of_line at (printed state.old.log) ≡ [] }
     requires node { IsNode state.old.nodes n.0 }
     ensures ok { IfOk result (CommitStarts at n state.old state.new) }
+    ensures rest { OnOk result (KeepsButCommit n.0 state.old state.new) }
     ensures err { OnErr result (IsEnded state.old state.new) }
 {
     if !state.book().runs(n) {
@@ -53,6 +55,7 @@ pub fn commit_step<D: FaultDir + Drop>(
     requires running { state.old.ended ≡ false }
     requires started { last_of_line at (printed state.old.log) ≡ Some (Event.Committing n v) }
     ensures ok { IfOk result (CommitSteps at n v state.old state.new) }
+    ensures rest { OnOk result (KeepsButCommit n.0 state.old state.new) }
     ensures err { OnErr result (IsEnded state.old state.new) }
 {
     state.book().is_started(at, &Event::Committing { n, v });
@@ -90,6 +93,8 @@ fn lose_commit<D: FaultDir + Drop>(
     requires lost { (crashes n.0 (printed state.old.log)
         == crashes n.0 (before_start at (printed state.old.log))) ≡ false }
     ensures ok { OnOk result (LineRefused at Cause.Lost state.old state.new) }
+    ensures plans { OnOk result (state.new.rest.plans ≡ state.old.rest.plans) }
+    ensures rest { OnOk result (KeepsRest state.old state.new) }
     ensures err { OnErr result (IsEnded state.old state.new) }
 {
     state.book().is_legal();

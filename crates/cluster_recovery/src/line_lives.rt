@@ -1,12 +1,14 @@
 //! Crashes and reopenings of nodes.
 
 ghost use Rattle.std.specs.Prelude.{ℕ, ◌≡◌, ◌==◌, ◌∷◌, [], false, OnOk, OnErr};
-ghost use Rattle.history_rules.specs.Nodes.{IsNode, is_running};
+ghost use Rattle.history_rules.specs.Nodes.{IsNode, is_running, is_at, primary_of};
 ghost use Rattle.history_rules.specs.Lines.{entries_of_line};
 ghost use Rattle.history_book.specs.Log.{printed, shown};
 ghost use Rattle.cluster_state.specs.Run.{files_at, plans_at, IsNow, IsEnded};
+ghost use Rattle.cluster_state.specs.Keeping.{TellsSameOfOthers, KeepsButNode};
 ghost use Rattle.cluster_state.specs.GivesUp.{met_log};
-ghost use Rattle.cluster_state.specs.LifeCalls.{crash_event, crashed_plans, crashed_tasks, is_primary, ReopensNode};
+ghost use Rattle.cluster_recovery.specs.Crashes.{CrashTells};
+ghost use Rattle.cluster_state.specs.LifeCalls.{crash_event, crashed_plans, crashed_tasks, is_primary, CrashesDirBy, ReopensNode};
 
 use crate::lives::{crash_node, reopen_node};
 use cluster_state::{ClusterState, refuse};
@@ -31,8 +33,12 @@ pub fn crash<D: FaultDir + Drop>(
         (shown at (crash_event n (printed state.old.log)) ∷ met_log at state.old state.new)) }
     ensures plans { OnOk result (plans_at n.0 state.new
         ≡ crashed_plans (is_running n.0 (printed state.old.log)) (plans_at n.0 state.old)) }
+    ensures dir { OnOk result (CrashesDirBy (is_running n.0 (printed state.old.log))
+        D.cells D.leaves n.0 pick state.old state.new) }
     ensures stays { OnOk result ((m : ℕ) → (n.0 == m) ≡ false
         → files_at m state.new ≡ files_at m state.old) }
+    ensures rest { OnOk result (CrashTells (is_running n.0 (printed state.old.log))
+        (is_at (primary_of (printed state.old.log)) n.0) n.0 state.old state.new) }
     ensures tasks { OnOk result (state.new.rest.tasks
         ≡ crashed_tasks (is_primary n.0 (printed state.old.log)) state.old.rest.tasks) }
     ensures err { OnErr result (IsEnded state.old state.new) }
@@ -54,7 +60,8 @@ pub fn reopen<D: FaultDir + Drop>(
     requires fresh { entries_of_line at (printed state.old.log) ≡ [] }
     requires node { IsNode state.old.nodes n.0 }
     ensures ok { OnOk result (ReopensNode at n state.old state.new) }
-    ensures tasks { OnOk result (state.new.rest.tasks ≡ state.old.rest.tasks) }
+    ensures rest { OnOk result (KeepsButNode n.0 state.old state.new) }
+    ensures disks { OnOk result (TellsSameOfOthers plans_at n.0 state.old state.new) }
     ensures err { OnErr result (IsEnded state.old state.new) }
 {
     if state.book().runs(n) {

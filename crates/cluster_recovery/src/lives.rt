@@ -10,14 +10,16 @@ ghost use Rattle.history_book.specs.Turns.{AreInTurn};
 ghost use Rattle.cluster_state.specs.Met.{ArePlanned, met_in, with_met};
 ghost use Rattle.cluster_state.specs.GivesUp.{met_log};
 ghost use Rattle.cluster_state.specs.Run.{files_at, plans_at, IsNow, IsEnded};
+ghost use Rattle.cluster_state.specs.Keeping.{TellsSameOfOthers, KeepsButNode};
 ghost use Rattle.cluster_state.specs.Lives.{Reopens};
-ghost use Rattle.cluster_state.specs.LifeCalls.{crashed_tasks};
+ghost use Rattle.cluster_state.specs.LifeCalls.{crashed_tasks, CrashesDir};
+ghost use Rattle.cluster_recovery.specs.Crashes.{CrashTells};
 
 use crate::commits::note_own;
 use crate::down::{has_failed, is_planned_at, note_down};
 use crate::falls::end_merges;
 use cluster_nodes::{NodePlace, Went, crash_in, files_last, reopen_in};
-use cluster_state::{ClusterState, are_planned, kinds_in, node_kinds, show_met};
+use cluster_state::{ClusterState, are_planned, met_before, node_kinds, show_met};
 use disk_model::FaultDir;
 use history_rules::Event;
 use merge_tasks::Ledger;
@@ -74,8 +76,11 @@ pub fn crash_node<D: FaultDir + Drop>(
     ensures ok { OnOk result (IsNow cluster.old cluster.new
         (shown at (Event.Crashed n) ∷ met_log at cluster.old cluster.new)) }
     ensures plans { OnOk result (plans_at n.0 cluster.new ≡ ended (plans_at n.0 cluster.old)) }
+    ensures dir { OnOk result (CrashesDir D.cells D.leaves n.0 pick cluster.old cluster.new) }
     ensures stays { OnOk result ((m : ℕ) → (n.0 == m) ≡ false
         → files_at m cluster.new ≡ files_at m cluster.old) }
+    ensures rest { OnOk result (CrashTells true (is_at (primary_of (printed cluster.old.log)) n.0)
+        n.0 cluster.old cluster.new) }
     ensures tasks { OnOk result (cluster.new.rest.tasks ≡ crashed_tasks
         (is_at (primary_of (printed cluster.old.log)) n.0) cluster.old.rest.tasks) }
     ensures err { OnErr result (IsEnded cluster.old cluster.new) }
@@ -85,11 +90,7 @@ pub fn crash_node<D: FaultDir + Drop>(
     book.is_fresh(at);
     files_last();
     cluster.ended = true;
-    let before = kinds_in(alloc, cluster.places.as_slice())?;
-    if before.len() > u8::MAX as usize {
-        return Err(AllocError);
-    }
-    cluster.ledger.reserve(2 * before.len() + 1)?;
+    let before = met_before(alloc, &mut cluster.ledger, &cluster.places, 1)?;
     crash_in(alloc, &mut cluster.places, primary, n, pick)?;
     end_merges(&mut cluster.places, &mut cluster.tasks, primary, n);
     if !are_planned(cluster.ledger.book(), before.as_slice(), &cluster.places) {
@@ -121,7 +122,8 @@ pub fn reopen_node<D: FaultDir + Drop>(
     requires node { IsNode cluster.old.nodes n.0 }
     requires down { is_running n.0 (printed cluster.old.log) ≡ false }
     ensures ok { OnOk result (Reopens at n cluster.old cluster.new) }
-    ensures tasks { OnOk result (cluster.new.rest.tasks ≡ cluster.old.rest.tasks) }
+    ensures rest { OnOk result (KeepsButNode n.0 cluster.old cluster.new) }
+    ensures disks { OnOk result (TellsSameOfOthers plans_at n.0 cluster.old cluster.new) }
     ensures err { OnErr result (IsEnded cluster.old cluster.new) }
 {
     let book = cluster.ledger.book();

@@ -13,7 +13,7 @@ ghost use Rattle.cluster_state.specs.GivesUp.{met_log};
 ghost use Rattle.cluster_state.specs.Run.{IsNow, IsEnded};
 
 use cluster_nodes::{NodePlace, promote_in};
-use cluster_state::{ClusterState, are_planned, files_last, kinds_in, show_met};
+use cluster_state::{ClusterState, are_planned, files_last, met_before, show_met};
 use disk_model::FaultDir;
 use history_rules::Event;
 use merge_tasks::Ledger;
@@ -91,11 +91,7 @@ pub fn promote_node<D: FaultDir + Drop>(
     }
     let generation = Gen(last + 1);
     let v = Version(forced.0 + 1);
-    let before = kinds_in(alloc, cluster.places.as_slice())?;
-    if before.len() > u8::MAX as usize {
-        return Err(AllocError);
-    }
-    cluster.ledger.reserve(2 * before.len() + 1)?;
+    let before = met_before(alloc, &mut cluster.ledger, &cluster.places, 1)?;
     promote_in(alloc, &mut cluster.places, n, generation, forced)?;
     if !are_planned(cluster.ledger.book(), before.as_slice(), &cluster.places) {
         return Err(AllocError);

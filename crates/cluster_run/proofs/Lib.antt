@@ -1,4 +1,3 @@
 mod BookParts
 mod EmptyDirs
 mod Scripts
-mod StateParts

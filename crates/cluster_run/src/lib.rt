@@ -1,8 +1,8 @@
-//! Scripts, run over a cluster on disks in memory by lanes in threads: each line in sections of the one lock, and its work between them.
+//! Scripts, run over a cluster on disks in memory by lanes in threads: each line in sections of the one lock, and its work between them. It
+//! is all that the program sees of the cluster, and it knows no text.
 #![tactic(auto)]
 
 mod crossing;
-pub mod line;
 pub mod runner;
 pub mod script;
 

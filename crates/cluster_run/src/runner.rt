@@ -2,14 +2,17 @@
 
 ghost use Rattle.script_serving.specs.Form.{is_command};
 
-use crate::line::do_line;
 use disk_model::FaultDir;
+use documents::Op;
 use hist_lock::{HistLock, LaneSeat};
-use lane_copies::do_posted;
+use lane_copies::{copy, do_posted, drain, merge, settle};
+use lane_lines::{
+    ask, close, commit, crash, fault, list_files, open, promote, publish, reopen, search, write,
+};
 use lane_sections::{Gate, Lanes, Site};
 use lane_threads::{Halt, Lane, RunsLines, Setup};
-use nrt_base::NoMemory;
-use script_serving::Line;
+use nrt_base::{NoMemory, Share};
+use script_serving::{Line, LineCommand};
 use std::alloc::Global;
 use std::sync::Wait;
 
@@ -42,7 +45,27 @@ impl<'g, D: FaultDir + Drop, G: Gate> RunsLines<Site<D>> for ClusterLines<'g, G>
             gate: self.gate,
             halt,
         };
-        do_line(&lanes, seat, line)
+        let at = line.at;
+        match &line.command {
+            LineCommand::Put(doc) => write(&lanes, seat, at, Op::Put(doc.share(self.alloc)?)),
+            LineCommand::Delete(key) => write(&lanes, seat, at, Op::Delete(key.share(self.alloc)?)),
+            LineCommand::Drop(word) => write(&lanes, seat, at, Op::Drop(word.share(self.alloc)?)),
+            LineCommand::Publish => publish(&lanes, seat, at),
+            LineCommand::Copy(n) => copy(&lanes, seat, at, *n),
+            LineCommand::Settle => settle(&lanes, seat, at),
+            LineCommand::Search(n, query) => search(&lanes, seat, at, *n, query),
+            LineCommand::Open(n, t) => open(&lanes, seat, at, *n, *t),
+            LineCommand::Ask(t, query) => ask(&lanes, seat, at, *t, query),
+            LineCommand::Close(t) => close(&lanes, seat, at, *t),
+            LineCommand::Files(n) => list_files(&lanes, seat, at, *n),
+            LineCommand::Commit(n) => commit(&lanes, seat, at, *n),
+            LineCommand::Crash(n, pick) => crash(&lanes, seat, at, *n, *pick),
+            LineCommand::Reopen(n) => reopen(&lanes, seat, at, *n),
+            LineCommand::Promote(n, force) => promote(&lanes, seat, at, *n, *force),
+            LineCommand::Merge(factor) => merge(&lanes, seat, at, *factor),
+            LineCommand::Drain(most) => drain(&lanes, seat, at, *most),
+            LineCommand::Fault(n, plan) => fault(&lanes, seat, at, *n, *plan),
+        }
     }
 
     fn do_task<R: Wait>(

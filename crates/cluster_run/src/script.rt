@@ -3,14 +3,13 @@
 ghost use Rattle.std.specs.Prelude.{◌≡◌, ◌≤◌, [], false, IfOk, OnOk, length};
 ghost use Rattle.std.specs.List.{All};
 ghost use Rattle.history_rules.specs.Legal.{IsLegal};
-ghost use Rattle.history_book.specs.Told.{IsTold};
 ghost use Rattle.script_serving.specs.Form.{IsInForm};
 ghost use Rattle.script_serving.specs.Serves.{Serves};
 ghost use Rattle.disk_memory.specs.Memory.{cells_in, known_plans};
 ghost use Rattle.trans_log.specs.Logs.{SameLogs, IsCalm};
 ghost use Rattle.cluster_state.specs.Starting.{IsEmptyDir};
 ghost use Rattle.lane_sections.specs.Given.{is_logged};
-ghost use Rattle.cluster_run.specs.Running.{history_of};
+ghost use Rattle.cluster_run.specs.Running.{history_of, TellsInner};
 
 use crate::crossing::{ledger_crosses, sent};
 use crate::runner::ClusterLines;
@@ -74,7 +73,7 @@ fn new_site(alloc: Global, script: &Script) -> Result<Site<MemDir>, NoMemory>
 /// `log`, the site has one, which a promotion replays. `Err` is want of memory alone.
 ///
 /// Whatever the lanes' threads do in between, the history is legal and serves the script, and each printed entry tells what is so of
-/// inner work.
+/// inner work, an answer `none` to a publish too.
 pub fn run_script<R: Threads + Wait + Sync, G: Gate + Sync>(
     rt: &R,
     alloc: Global,
@@ -85,7 +84,7 @@ pub fn run_script<R: Threads + Wait + Sync, G: Gate + Sync>(
     ensures running { IfOk result (λ c. c.ended ≡ false) }
     ensures legal { IfOk result (λ c. IsLegal (history_of c)) }
     ensures serves { IfOk result (λ c. Serves script.now (history_of c)) }
-    ensures told { IfOk result (λ c. IsTold c.log) }
+    ensures told { IfOk result (λ c. TellsInner script.now c.log) }
 {
     ledger_crosses();
     sent::<Ledger>();

@@ -1,4 +1,5 @@
 mod Closing
+mod DirNames
 mod Holding
 pub mod Leasing
 mod Listing

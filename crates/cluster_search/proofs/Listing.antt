@@ -49,8 +49,8 @@ use Rattle.cluster_nodes.specs.declared.nodes.Node.{Node}
 use Rattle.cluster_nodes.specs.declared.nodes.Node.TheVariants.{Primary, Replica, Down}
 use Rattle.cluster_nodes.specs.declared.nodes.NodePlace.{NodePlace}
 use Rattle.cluster_nodes.specs.Held.{held_number}
-use Rattle.cluster_nodes.specs.Places.{place_of, tickets_of, disk_of, disk_at, HasRunning}
-use Rattle.cluster_nodes.specs.Listed.{dir_of, AreNamesOf, AreNamesAt}
+use Rattle.cluster_nodes.specs.Places.{place_of, tickets_of, dir_of, disk_of, disk_at, HasRunning}
+use Rattle.cluster_nodes.specs.Listed.{AreNamesOf, AreNamesAt}
 use Rattle.cluster_state.specs.Run.{Rest, Run}
 use Rattle.cluster_state.specs.State.{StandForVersion, IsPointAt, HoldsTickets, ticket_key, NodeShows, PlaceShows, Shows}
 use Rattle.cluster_state.specs.Names.{NamesDocuments, AreNamesShown, NamesShow}

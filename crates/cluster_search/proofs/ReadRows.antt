@@ -1,5 +1,5 @@
 -- What tickets and searches ask for, from how far their line has come, and what a list of files tells.
-use Rattle.std.proofs.Common.{◌≡◌, ◌≢◌, ◌==◌, ℕ, Bool, true, false, [], ◌∷◌, Some, None, Option, refl, ap, ◌∙◌, sym, subst, if◌then◌else◌, List}
+use Rattle.std.proofs.Common.{◌≡◌, ◌≢◌, ◌==◌, ℕ, Bool, true, false, true≢false, [], ◌∷◌, Some, None, Option, refl, ap, ◌∙◌, sym, subst, if◌then◌else◌, List}
 use Rattle.std.specs.Prelude.{not, IsSomeAnd, IfSome}
 use Rattle.std.proofs.lemmas.Option.{same_Some}
 use Rattle.nrt_base.specs.declared.numbers.At.{At}
@@ -33,7 +33,8 @@ use Rattle.history_book.proofs.OpenLaws.{last_started}
 use Rattle.history_book.proofs.ReignLaws.{start_kept}
 use Rattle.cluster_search.proofs.Leasing.{ticket_node}
 use Rattle.cluster_state.specs.Calls.{ScansAt, AnswerEnds, by_refusal, LineRefused, ListsFiles}
-use Rattle.disk_model.specs.Disk.{Name}
+use Rattle.cluster_state.specs.Lists.{TellsFiles}
+use Rattle.disk_model.specs.Disk.{Cells}
 use Rattle.script_serving.specs.Refusals.{when}
 use Rattle.cluster_state.proofs.Rows.{legal_at, up_unrefused}
 
@@ -155,14 +156,16 @@ asking_ends at n t v query answer old new last now =
 -- ---- files
 
 -- a node that runs, or that is down
-pub listed : (at : At) (n : NodeNo) (old new : Run) (names : List Name) → is_running n.0 (printed old.log) ≡ true → IsNow old new (shown at (Files n names) ∷ old.log) → ListsFiles at n old new
-listed at n old new names up now = record {
-  names = names;
-  now = subst (λ (o : Option Cause). IsNow old new (shown at (by_refusal o (Files n names)) ∷ old.log)) (sym (up_unrefused n.0 (printed old.log) up)) now;
+pub listed : {D : Type 0} (cells : D → Cells) (at : At) (n : NodeNo) (old new : Run) → is_running n.0 (printed old.log) ≡ true → TellsFiles cells at n old new → ListsFiles cells at n old new
+listed cells at n old new up tells = record {
+  names = tells.names;
+  now = subst (λ (o : Option Cause). IsNow old new (shown at (by_refusal o (Files n tells.names)) ∷ old.log)) (sym (up_unrefused n.0 (printed old.log) up)) tells.now;
+  are = λ again. tells.are;
 }
 
-pub unlisted : (at : At) (n : NodeNo) (old new : Run) → is_running n.0 (printed old.log) ≡ false → LineRefused at Down old new → ListsFiles at n old new
-unlisted at n old new down now = record {
+pub unlisted : {D : Type 0} (cells : D → Cells) (at : At) (n : NodeNo) (old new : Run) → is_running n.0 (printed old.log) ≡ false → LineRefused at Down old new → ListsFiles cells at n old new
+unlisted cells at n old new down now = record {
   names = [];
   now = subst (λ (o : Option Cause). IsNow old new (shown at (by_refusal o (Files n [])) ∷ old.log)) (sym (ap (λ (b : Bool). when (not b) Down) down)) now;
+  are = λ up. absurd (true≢false (sym up ∙ down));
 }

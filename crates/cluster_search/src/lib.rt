@@ -1,4 +1,4 @@
-//! Searches of a cluster, and their tickets.
+//! Searches of a cluster, and their tickets. Each kind of path is a crate of its own, so that a change of one proves no other again.
 #![tactic(auto)]
 
 mod line_lists;

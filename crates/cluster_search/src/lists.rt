@@ -26,7 +26,8 @@ pub fn list_files<D: FaultDir + Drop>(
     requires fresh { entries_of_line at (printed cluster.old.log) ≡ [] }
     requires node { IsNode cluster.old.nodes n.0 }
     requires up { is_running n.0 (printed cluster.old.log) ≡ true }
-    ensures ok { OnOk result (TellsFiles at n cluster.old cluster.new) }
+    ensures ok { OnOk result (TellsFiles D.cells at n cluster.old cluster.new) }
+    ensures plans { OnOk result (cluster.new.rest.plans ≡ cluster.old.rest.plans) }
     ensures rest { OnOk result (KeepsRest cluster.old cluster.new) }
     ensures err { OnErr result (IsEnded cluster.old cluster.new) }
 {

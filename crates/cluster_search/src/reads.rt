@@ -19,7 +19,7 @@ ghost use Rattle.cluster_state.specs.FileChanges.{keeps_jobs, keeps_commits};
 ghost use Rattle.merge_tasks.specs.TaskLog.{is_drained};
 
 use cluster_nodes::{HeldKey, give_ticket_back, hold_ticket, lease_in, put, take};
-use cluster_state::{ClusterState, are_planned, kinds_in, note_met};
+use cluster_state::{ClusterState, are_planned, met_before, note_met};
 use disk_model::FaultDir;
 use history_book::Opening;
 use history_rules::Event;
@@ -46,6 +46,7 @@ pub fn open_ticket<D: FaultDir + Drop>(
     requires free { has_ticket at.lane.0 t.0 (printed cluster.old.log) ≡ false }
     ensures ok { OnOk result (IsNow cluster.old cluster.new (shown at (Event.Opened n t
         (record { 0 = version_of n.0 (printed cluster.old.log) })) ∷ cluster.old.log)) }
+    ensures plans { OnOk result (cluster.new.rest.plans ≡ cluster.old.rest.plans) }
     ensures rest { OnOk result (KeepsRest cluster.old cluster.new) }
     ensures err { OnErr result (IsEnded cluster.old cluster.new) }
 {
@@ -82,6 +83,7 @@ pub fn open_search<D: FaultDir + Drop>(
         (record { 0 = version_of n.0 (printed cluster.old.log) })) ∷ cluster.old.log)) }
     ensures lease { IfOk result (ReadsAt (printed cluster.old.log)
         (version_of n.0 (printed cluster.old.log))) }
+    ensures plans { OnOk result (cluster.new.rest.plans ≡ cluster.old.rest.plans) }
     ensures rest { OnOk result (KeepsRest cluster.old cluster.new) }
     ensures err { OnErr result (IsEnded cluster.old cluster.new) }
 {
@@ -118,6 +120,7 @@ pub fn ask_ticket<D: FaultDir + Drop>(
     ensures ok { OnOk result (IsNow cluster.old cluster.new
         (shown at (Event.Asking opening.node t opening.version) ∷ cluster.old.log)) }
     ensures lease { IfOk result (ReadsAt (printed cluster.old.log) opening.version.0) }
+    ensures plans { OnOk result (cluster.new.rest.plans ≡ cluster.old.rest.plans) }
     ensures rest { OnOk result (KeepsRest cluster.old cluster.new) }
     ensures err { OnErr result (IsEnded cluster.old cluster.new) }
 {
@@ -173,11 +176,7 @@ pub fn note_without<D: FaultDir + Drop>(
     ensures err { OnErr result (IsEnded cluster.old cluster.new) }
 {
     cluster.ended = true;
-    let before = kinds_in(alloc, cluster.places.as_slice())?;
-    if before.len() > u8::MAX as usize {
-        return Err(AllocError);
-    }
-    cluster.ledger.reserve(2 * before.len() + 1)?;
+    let before = met_before(alloc, &mut cluster.ledger, &cluster.places, 1)?;
     let mut place = take(&mut cluster.places, n);
     give_ticket_back(&mut place, key);
     put(&mut cluster.places, n, place);

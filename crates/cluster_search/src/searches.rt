@@ -35,6 +35,7 @@ pub fn search_start<D: FaultDir + Drop>(
     requires fresh { entries_of_line at (printed state.old.log) ≡ [] }
     requires node { IsNode state.old.nodes n.0 }
     ensures ok { IfOk result (SearchStarts at n state.old state.new) }
+    ensures plans { OnOk result (state.new.rest.plans ≡ state.old.rest.plans) }
     ensures rest { OnOk result (KeepsRest state.old state.new) }
     ensures err { OnErr result (IsEnded state.old state.new) }
 {
@@ -55,6 +56,7 @@ pub fn ask_start<D: FaultDir + Drop>(
     requires running { state.old.ended ≡ false }
     requires fresh { entries_of_line at (printed state.old.log) ≡ [] }
     ensures ok { IfOk result (AskStarts at t state.old state.new) }
+    ensures plans { OnOk result (state.new.rest.plans ≡ state.old.rest.plans) }
     ensures rest { OnOk result (KeepsRest state.old state.new) }
     ensures err { OnErr result (IsEnded state.old state.new) }
 {

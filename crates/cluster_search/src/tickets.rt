@@ -31,6 +31,7 @@ pub fn ticket_open<D: FaultDir + Drop>(
     requires number { t.0 ≢ 0 }
     ensures ok { OnOk result (IsNow state.old state.new (shown at
         (open_event at.lane.0 n t (printed state.old.log)) ∷ state.old.log)) }
+    ensures plans { OnOk result (state.new.rest.plans ≡ state.old.rest.plans) }
     ensures rest { OnOk result (KeepsRest state.old state.new) }
     ensures err { OnErr result (IsEnded state.old state.new) }
 {

@@ -18,7 +18,8 @@ use Rattle.history_book.proofs.FreshLaws.{fresh}
 use Rattle.script_serving.specs.Refusals.{when, without_primary}
 use Rattle.script_serving.specs.Replays.{logged_operations}
 use Rattle.lane_threads.specs.Owes.{GoesByLine, FaultsFit}
-use Rattle.lane_threads.proofs.WalkLemmas.{call_goes}
+use Rattle.lane_threads.proofs.WalkLemmas.{call_faults}
+use Rattle.lane_threads.proofs.IdleLemmas.{is_publish, apart_none}
 use Rattle.trans_log.specs.declared.record.LogOp.{LogOp}
 use Rattle.trans_log.specs.declared.log.TransLog.{TransLog}
 use Rattle.trans_log.specs.declared.log.LogFault.{LogFault}
@@ -100,6 +101,11 @@ writing_unpromoted (PutOp doc) = refl
 writing_unpromoted (DeleteOp key) = refl
 writing_unpromoted (DropOp word) = refl
 
+writing_apart : (op : Op) → is_publish (writing_command op) ≡ false
+writing_apart (PutOp doc) = refl
+writing_apart (DeleteOp key) = refl
+writing_apart (DropOp word) = refl
+
 module _ {D : Type 0} (cells : D → Cells) (plans : D → Option Plans) (old new : Run) (log later : Option (TransLog D)) (s : SiteRun) (op : Op) (at : At) (k : ℕ) (view : site_of old log ≡ s) (running : s.run.ended ≡ false) (was : SiteStands cells plans old log) where
   runs : old.ended ≡ false
   runs = runs_was old log s view running
@@ -109,7 +115,7 @@ module _ {D : Type 0} (cells : D → Cells) (plans : D → Option Plans) (old ne
 
   faults_on : is_some (records_of later) ≡ is_some (records_of log) → Does (writing_command op) at old new → FaultsFit (is_some (records_of later)) new.log
   faults_on flag does =
-      subst (λ (b : Bool). FaultsFit b new.log) (sym flag) (call_goes (is_some (records_of log)) (writing_command op) at old.log new.log was.faults (goes_on does)).faults
+      subst (λ (b : Bool). FaultsFit b new.log) (sym flag) (call_faults (is_some (records_of log)) (writing_command op) at old.log new.log was.faults (goes_on does))
 
   step_on : (kept : Option (List LogOp)) (e : Event) → IsNow old new (shown at e ∷ old.log) → IsInStep kept (record { at = at; event = e } ∷ printed old.log) → IsInStep kept (printed new.log)
   step_on kept e now step = subst (λ (l : Log). IsInStep kept (printed l)) (sym now.log) step
@@ -122,7 +128,7 @@ module _ {D : Type 0} (cells : D → Cells) (plans : D → Option Plans) (old ne
       → OnOk r (IsNow old new (shown at (by_refusal (without_primary (printed old.log)) (Accepted k op)) ∷ old.log)) → OnOk r (Does (writing_command op) at old new) → OnErr r (IsEnded old new)
       → SiteStands cells plans new log
   refused_stands (Ok x) none now does ends = record {
-    faults = (call_goes (is_some (records_of log)) (writing_command op) at old.log new.log was.faults (goes_on does)).faults;
+    faults = call_faults (is_some (records_of log)) (writing_command op) at old.log new.log was.faults (goes_on does);
     in_step = λ _. step_on (records_of log) (by_refusal (without_primary (printed old.log)) (Accepted k op)) now
         (subst (λ (e : Event). IsInStep (records_of log) (record { at = at; event = e } ∷ printed old.log)) (sym (no_primary (primary_of (printed old.log)) (Accepted k op) none))
         (refused_step (records_of log) (printed old.log) at (was.in_step runs)));
@@ -154,7 +160,7 @@ module _ {D : Type 0} (cells : D → Cells) (plans : D → Option Plans) (old ne
 
   -- what the line is owed
   pub accept_does : {X E : Type 0} (r : Result X E) → is_some (records_of later) ≡ is_some (records_of log) → OnOk r (Does (writing_command op) at old new) → OnOk r (DoesAtSite (writing_command op) at s (site_of new later))
-  accept_does (Ok x) flag does = subst (λ (z : SiteRun). DoesAtSite (writing_command op) at z (site_of new later)) view (record { running = does.running; nodes = does.nodes; logged = flag; goes = goes_on does })
+  accept_does (Ok x) flag does = subst (λ (z : SiteRun). DoesAtSite (writing_command op) at z (site_of new later)) view (record { running = does.running; nodes = does.nodes; logged = flag; goes = goes_on does; none = apart_none (writing_command op) at old.log new.log (writing_apart op) does.goes })
   accept_does (Err e) flag does = tt
 
 -- ---- what the log has behind it

@@ -13,13 +13,14 @@ use Rattle.history_rules.specs.declared.entry.Event.TheVariants.{Accepted, Copyi
 use Rattle.history_rules.specs.Nodes.{Past}
 use Rattle.history_rules.specs.Lines.{last_of_line}
 use Rattle.script_serving.specs.declared.script.LineCommand.{LineCommand}
-use Rattle.script_serving.specs.declared.script.LineCommand.TheVariants.{Put, Delete, Drop, Copy, Promote}
+use Rattle.script_serving.specs.declared.script.LineCommand.TheVariants.{Put, Delete, Drop, Publish, Copy, Promote}
 use Rattle.script_serving.specs.Refusals.{refusal}
 use Rattle.script_serving.specs.Replays.{logged_operations, replay_due}
 use Rattle.script_serving.specs.Serves.{Begins, First, Follows, Suits}
 use Rattle.history_book.specs.declared.inner.Mark.TheVariants.{Shown, TaskFault, Kept}
 use Rattle.history_book.specs.Log.{Log, printed, FollowsMerging}
 use Rattle.lane_threads.specs.Owes.{SuitsOrFault, SuitsOrReplays, AddsEntries, GoesByLine, AddsByTask, GoesByTask}
+use Rattle.lane_threads.proofs.IdleLemmas.{is_publish}
 use Rattle.trans_log.specs.declared.record.LogOp.{LogOp}
 use Rattle.cluster_site.specs.Sites.{AreLogged, IsInStep}
 
@@ -28,21 +29,34 @@ abbrev pub is_promotion : LineCommand → Bool
 is_promotion (Promote n force) = true
 is_promotion command = false
 
--- a line that asks for this accepts no operation, and begins no generation
-abbrev pub is_quiet : LineCommand → Bool
-is_quiet (Put doc) = false
-is_quiet (Delete key) = false
-is_quiet (Drop word) = false
-is_quiet (Promote n force) = false
-is_quiet command = true
+-- a line that asks for this accepts no operation, and begins no generation: nothing of it is logged
+abbrev pub is_unlogged : LineCommand → Bool
+is_unlogged (Put doc) = false
+is_unlogged (Delete key) = false
+is_unlogged (Drop word) = false
+is_unlogged (Promote n force) = false
+is_unlogged command = true
 
-quiet_unpromoted : (command : LineCommand) → is_quiet command ≡ true → is_promotion command ≡ false
-quiet_unpromoted (Promote n force) quiet = absurd (false≢true quiet)
-quiet_unpromoted command quiet = refl
+-- nor does it publish
+abbrev pub is_quiet : LineCommand → Bool
+is_quiet Publish = false
+is_quiet command = is_unlogged command
+
+pub quiet_unlogged : (command : LineCommand) → is_quiet command ≡ true → is_unlogged command ≡ true
+quiet_unlogged Publish quiet = refl
+quiet_unlogged command quiet = quiet
+
+pub quiet_apart : (command : LineCommand) → is_quiet command ≡ true → is_publish command ≡ false
+quiet_apart Publish quiet = absurd (false≢true quiet)
+quiet_apart command quiet = refl
+
+unlogged_unpromoted : (command : LineCommand) → is_unlogged command ≡ true → is_promotion command ≡ false
+unlogged_unpromoted (Promote n force) quiet = absurd (false≢true quiet)
+unlogged_unpromoted command quiet = refl
 
 -- ---- one entry
 
-no_accept : (command : LineCommand) (past : Past) (seq : ℕ) (op : Op) → is_quiet command ≡ true → Begins command past (Accepted seq op) → ⊥
+no_accept : (command : LineCommand) (past : Past) (seq : ℕ) (op : Op) → is_unlogged command ≡ true → Begins command past (Accepted seq op) → ⊥
 no_accept (Put doc) past seq op quiet h = false≢true quiet
 no_accept (Delete key) past seq op quiet h = false≢true quiet
 no_accept (Drop word) past seq op quiet h = false≢true quiet
@@ -87,17 +101,17 @@ module _ (command : LineCommand) (at a : At) (past : Past) where
   none_due other none e suits = unpromoted_suits other none (last_of_line at past) e suits
 
   -- an entry of a quiet line leaves what is logged
-  quiet_first : is_quiet command ≡ true → (o : Option Cause) (e : Event) → First command at past o e → logged_operations (record { at = a; event = e } ∷ past) ≡ logged_operations past
+  quiet_first : is_unlogged command ≡ true → (o : Option Cause) (e : Event) → First command at past o e → logged_operations (record { at = a; event = e } ∷ past) ≡ logged_operations past
   quiet_first quiet (Some cause) (Accepted seq op) h = absurd (accepted_unrefused seq op cause h)
   quiet_first quiet None (Accepted seq op) h = absurd (no_accept command past seq op quiet h)
   quiet_first quiet o e h = refl
 
-  quiet_suits : is_quiet command ≡ true → (o : Option Event) (e : Event) → Suits command at past o e → logged_operations (record { at = a; event = e } ∷ past) ≡ logged_operations past
+  quiet_suits : is_unlogged command ≡ true → (o : Option Event) (e : Event) → Suits command at past o e → logged_operations (record { at = a; event = e } ∷ past) ≡ logged_operations past
   quiet_suits quiet None e suits = quiet_first quiet (refusal command at.lane.0 past) e suits
   quiet_suits quiet (Some last) (Accepted seq op) suits = absurd (no_late_accept command last seq op suits.1)
   quiet_suits quiet (Some last) e suits = refl
 
-  same_logged : is_quiet command ≡ true → (e : Event) → SuitsOrFault command at past e → logged_operations (record { at = a; event = e } ∷ past) ≡ logged_operations past
+  same_logged : is_unlogged command ≡ true → (e : Event) → SuitsOrFault command at past e → logged_operations (record { at = a; event = e } ∷ past) ≡ logged_operations past
   same_logged quiet (Met n kind) suits = refl
   same_logged quiet e suits = quiet_suits quiet (last_of_line at past) e suits
 
@@ -128,7 +142,7 @@ line_adds command at (TaskFault e ∷ more) old other none h =
 line_adds command at (Kept i ∷ more) old other none h = let rest = line_adds command at more old other none h.1 in ((h.0, rest.0), rest.1)
 
 -- a quiet one
-quiet_logged : (command : LineCommand) (at : At) (more old : Log) → is_quiet command ≡ true → AddsEntries false command at more old → logged_operations (printed (more ++ old)) ≡ logged_operations (printed old)
+quiet_logged : (command : LineCommand) (at : At) (more old : Log) → is_unlogged command ≡ true → AddsEntries false command at more old → logged_operations (printed (more ++ old)) ≡ logged_operations (printed old)
 quiet_logged command at [] old quiet h = refl
 quiet_logged command at (Shown e ∷ more) old quiet h = same_logged command at e.at (printed (more ++ old)) quiet e.event h.1 ∙ quiet_logged command at more old quiet h.2
 quiet_logged command at (TaskFault e ∷ more) old quiet h = fault_logged e.at (printed (more ++ old)) e.event h.0 ∙ quiet_logged command at more old quiet h.2
@@ -163,11 +177,11 @@ line_goes (Some records) command at old new other step goes =
     record { more = goes.more; log = goes.log; adds = (line_adds command at goes.more old other step.replayed goes.adds).0 }
 
 -- a quiet one leaves the log in step too
-pub quiet_goes : (kept : Option (List LogOp)) (command : LineCommand) (at : At) (old new : Log) → is_quiet command ≡ true → IsInStep kept (printed old) → GoesByLine false command at old new
+pub quiet_goes : (kept : Option (List LogOp)) (command : LineCommand) (at : At) (old new : Log) → is_unlogged command ≡ true → IsInStep kept (printed old) → GoesByLine false command at old new
     → GoesByLine (is_some kept) command at old new × IsInStep kept (printed new)
 quiet_goes None command at old new quiet step goes = (goes, tt)
 quiet_goes (Some records) command at old new quiet step goes =
-    let lifted = line_adds command at goes.more old (quiet_unpromoted command quiet) step.replayed goes.adds in
+    let lifted = line_adds command at goes.more old (unlogged_unpromoted command quiet) step.replayed goes.adds in
     (record { more = goes.more; log = goes.log; adds = lifted.0 }, still_logged records goes.more old new goes.log (quiet_logged command at goes.more old quiet goes.adds) lifted.1 step)
 
 -- so does one of a task

@@ -25,7 +25,8 @@ use Rattle.script_serving.specs.Refusals.{forced_version, refusal}
 use Rattle.script_serving.specs.Replays.{logged_operations, due}
 use Rattle.script_serving.specs.Serves.{First}
 use Rattle.lane_threads.specs.Owes.{SuitsOrFault, SuitsOrReplays, AddsEntries, GoesByLine}
-use Rattle.lane_threads.proofs.WalkLemmas.{call_goes, log_then}
+use Rattle.lane_threads.proofs.WalkLemmas.{call_faults, log_then}
+use Rattle.lane_threads.proofs.IdleLemmas.{apart_none}
 use Rattle.trans_log.specs.declared.record.LogOp.{LogOp}
 use Rattle.trans_log.specs.declared.log.TransLog.{TransLog}
 use Rattle.cluster_state.specs.Run.{Run, IsNow, IsEnded}
@@ -218,13 +219,13 @@ module _ {D : Type 0} (cells : D → Cells) (plans : D → Option Plans) (n : No
     promoted_was : {X E : Type 0} (r : Result X E) → OnErr r (new.ended ≡ true) → OnOk r (AcceptsLacking at mid.log new.log (records_of log))
         → OnErr r ((m : NodeNo) (f : Force) → GoesByLine (is_some (records_of log)) (Promote m f) at mid.log new.log) → SiteStands cells plans new log
     promoted_was (Ok x) ended done more = record {
-      faults = (call_goes (is_some (records_of log)) (Promote n force) at old.log new.log was.faults (whole done).goes).faults;
+      faults = call_faults (is_some (records_of log)) (Promote n force) at old.log new.log was.faults (whole done).goes;
       in_step = λ _. (whole done).step;
       stands = λ _. was.stands runs;
     }
     promoted_was (Err e) ended done more = record {
-      faults = (call_goes (is_some (records_of log)) (Promote n force) at old.log new.log was.faults
-          (goes_join (is_some (records_of log)) (Promote n force) at old.log mid.log new.log (promotion_goes n force at (records_of log) old.log (met_log at old mid) mid.log finds_here fresh_here now.log) (more n force))).faults;
+      faults = call_faults (is_some (records_of log)) (Promote n force) at old.log new.log was.faults
+          (goes_join (is_some (records_of log)) (Promote n force) at old.log mid.log new.log (promotion_goes n force at (records_of log) old.log (met_log at old mid) mid.log finds_here fresh_here now.log) (more n force));
       in_step = λ runs_on. absurd (true≢false (sym ended ∙ runs_on));
       stands = λ runs_on. absurd (true≢false (sym ended ∙ runs_on));
     }
@@ -238,7 +239,7 @@ module _ {D : Type 0} (cells : D → Cells) (plans : D → Option Plans) (n : No
         → OnOk r (DoesAtSite (Promote n force) at s (site_of new later))
     promoted_does (Ok x) later is goes_on done =
         subst (λ (z : SiteRun). DoesAtSite (Promote n force) at z (site_of new later)) view
-        (record { running = goes_on; nodes = same ∙ now.nodes; logged = ap (λ (l : Option (TransLog D)). is_some (records_of l)) is; goes = (whole done).goes })
+        (record { running = goes_on; nodes = same ∙ now.nodes; logged = ap (λ (l : Option (TransLog D)). is_some (records_of l)) is; goes = (whole done).goes; none = apart_none (Promote n force) at old.log new.log refl (whole done).goes })
     promoted_does (Err e) later is goes_on done = tt
 
     pub promoted_replied : {X E : Type 0} (r : Result X E) → OnOk r (AcceptsLacking at mid.log new.log (records_of log)) → OnOk r (IsReplied at new)

@@ -1,6 +1,7 @@
 -- What is true of a site behind a call of its cluster, and what the call did there.
 use Rattle.std.proofs.Common.{◌≡◌, ℕ, [], Bool, true, false, List, Option, Some, None, refl, ap, ◌∙◌, sym, subst, true≢false}
 use Rattle.std.specs.Prelude.{Result, Ok, Err, OnOk, OnErr, is_some}
+use Rattle.std.proofs.lemmas.Result.{on_ok_weaker}
 use Rattle.nrt_base.specs.declared.numbers.At.{At}
 use Rattle.disk_model.specs.Disk.{Cells}
 use Rattle.disk_model.specs.Faults.{Plans}
@@ -8,14 +9,16 @@ use Rattle.history_book.specs.Log.{Log, printed, name_by}
 use Rattle.script_serving.specs.declared.script.LineCommand.{LineCommand}
 use Rattle.lane_threads.specs.Owes.{FaultsFit, IsSettledLog}
 use Rattle.lane_threads.specs.declared.run.Setup.{Setup}
-use Rattle.lane_threads.proofs.WalkLemmas.{call_goes, task_faults}
+use Rattle.lane_threads.specs.Idle.{TellsNone}
+use Rattle.lane_threads.proofs.WalkLemmas.{call_faults, task_faults}
+use Rattle.lane_threads.proofs.IdleLemmas.{apart_none}
 use Rattle.trans_log.specs.declared.record.LogOp.{LogOp}
 use Rattle.trans_log.specs.declared.log.TransLog.{TransLog}
 use Rattle.cluster_state.specs.Run.{Run, IsEnded}
 use Rattle.cluster_core.specs.Doing.{Does}
 use Rattle.cluster_core.specs.Tasks.{DoesTask}
 use Rattle.cluster_site.specs.Sites.{SiteRun, SiteStands, IsInStep, DoesAtSite, DoesTaskAtSite, records_of, is_logged}
-use Rattle.cluster_site.proofs.Lifting.{is_quiet, quiet_goes, task_goes}
+use Rattle.cluster_site.proofs.Lifting.{is_unlogged, is_quiet, quiet_unlogged, quiet_apart, quiet_goes, task_goes}
 
 -- a site with this cluster and this log
 abbrev pub site_of : {D : Type 0} → Run → Option (TransLog D) → SiteRun
@@ -36,29 +39,40 @@ module _ {D : Type 0} (cells : D → Cells) (plans : D → Option Plans) (old ne
     stands = λ runs_on. absurd (true≢false (sym ends.ended ∙ runs_on));
   }
 
-  module _ (command : LineCommand) (at : At) (quiet : is_quiet command ≡ true) where
+  module _ (command : LineCommand) (at : At) (unlogged : is_unlogged command ≡ true) where
     done_stands : Does command at old new → SiteStands cells plans new log
     done_stands does =
-        let lifted = quiet_goes (records_of log) command at old.log new.log quiet (was.in_step runs) does.goes in
-        record { faults = (call_goes (is_some (records_of log)) command at old.log new.log was.faults lifted.0).faults; in_step = λ _. lifted.1; stands = λ _. was.stands runs }
+        let lifted = quiet_goes (records_of log) command at old.log new.log unlogged (was.in_step runs) does.goes in
+        record { faults = call_faults (is_some (records_of log)) command at old.log new.log was.faults lifted.0; in_step = λ _. lifted.1; stands = λ _. was.stands runs }
 
-    done_there : Does command at old new → DoesAtSite command at (site_of old log) (site_of new log)
-    done_there does = record {
+    done_there : TellsNone command old.log new.log → Does command at old new → DoesAtSite command at (site_of old log) (site_of new log)
+    done_there none does = record {
       running = does.running;
       nodes = does.nodes;
       logged = refl;
-      goes = (quiet_goes (records_of log) command at old.log new.log quiet (was.in_step runs) does.goes).0;
+      goes = (quiet_goes (records_of log) command at old.log new.log unlogged (was.in_step runs) does.goes).0;
+      none = none;
     }
 
-    -- behind a quiet call of a line
-    pub call_stands : {X E : Type 0} (r : Result X E) → OnOk r (Does command at old new) → OnErr r (IsEnded old new) → SiteStands cells plans new log
-    call_stands (Ok x) does ends = done_stands does
-    call_stands (Err e) does ends = ended_stands ends
+    -- behind a call of a line of which nothing is logged
+    pub line_stands : {X E : Type 0} (r : Result X E) → OnOk r (Does command at old new) → OnErr r (IsEnded old new) → SiteStands cells plans new log
+    line_stands (Ok x) does ends = done_stands does
+    line_stands (Err e) does ends = ended_stands ends
 
     -- what it did
+    pub line_does : {X E : Type 0} (r : Result X E) → OnOk r (TellsNone command old.log new.log) → OnOk r (Does command at old new) → OnOk r (DoesAtSite command at s (site_of new log))
+    line_does (Ok x) none does = subst (λ (z : SiteRun). DoesAtSite command at z (site_of new log)) view (done_there none does)
+    line_does (Err e) none does = tt
+
+  module _ (command : LineCommand) (at : At) (quiet : is_quiet command ≡ true) where
+    -- behind a quiet one
+    pub call_stands : {X E : Type 0} (r : Result X E) → OnOk r (Does command at old new) → OnErr r (IsEnded old new) → SiteStands cells plans new log
+    call_stands r does ends = line_stands command at (quiet_unlogged command quiet) r does ends
+
+    -- what that did
     pub call_does : {X E : Type 0} (r : Result X E) → OnOk r (Does command at old new) → OnOk r (DoesAtSite command at s (site_of new log))
-    call_does (Ok x) does = subst (λ (z : SiteRun). DoesAtSite command at z (site_of new log)) view (done_there does)
-    call_does (Err e) does = tt
+    call_does r does =
+        line_does command at (quiet_unlogged command quiet) r (on_ok_weaker r (λ (d : Does command at old new). apart_none command at old.log new.log (quiet_apart command quiet) d.goes) does) does
 
   module _ (by : Option At) where
     task_done : DoesTask by old new → SiteStands cells plans new log

@@ -40,6 +40,7 @@ impl<D: FaultDir + Drop> Site<D> {
         requires number { t.0 ≢ 0 }
         ensures ok { OnOk result (IsNow self.old.run self.new.run (shown at
             (open_event at.lane.0 n t (printed self.old.run.log)) ∷ self.old.run.log)) }
+        ensures plans { OnOk result (self.new.run.rest.plans ≡ self.old.run.rest.plans) }
         ensures rest { OnOk result (KeepsRest self.old.run self.new.run) }
         ensures err { OnErr result (IsEnded self.old.run self.new.run) }
 
@@ -61,6 +62,7 @@ impl<D: FaultDir + Drop> Site<D> {
         requires fresh { entries_of_line at (printed self.old.run.log) ≡ [] }
         requires node { IsNode self.old.run.nodes n.0 }
         ensures ok { IfOk result (SearchStarts at n self.old.run self.new.run) }
+        ensures plans { OnOk result (self.new.run.rest.plans ≡ self.old.run.rest.plans) }
         ensures rest { OnOk result (KeepsRest self.old.run self.new.run) }
         ensures err { OnErr result (IsEnded self.old.run self.new.run) }
 
@@ -83,6 +85,7 @@ impl<D: FaultDir + Drop> Site<D> {
         requires running { self.old.run.ended ≡ false }
         requires fresh { entries_of_line at (printed self.old.run.log) ≡ [] }
         ensures ok { IfOk result (AskStarts at t self.old.run self.new.run) }
+        ensures plans { OnOk result (self.new.run.rest.plans ≡ self.old.run.rest.plans) }
         ensures rest { OnOk result (KeepsRest self.old.run self.new.run) }
         ensures err { OnErr result (IsEnded self.old.run self.new.run) }
 
@@ -143,7 +146,8 @@ impl<D: FaultDir + Drop> Site<D> {
         requires running { self.old.run.ended ≡ false }
         requires fresh { entries_of_line at (printed self.old.run.log) ≡ [] }
         requires node { IsNode self.old.run.nodes n.0 }
-        ensures ok { OnOk result (ListsFiles at n self.old.run self.new.run) }
+        ensures ok { OnOk result (ListsFiles D.cells at n self.old.run self.new.run) }
+        ensures plans { OnOk result (self.new.run.rest.plans ≡ self.old.run.rest.plans) }
         ensures rest { OnOk result (KeepsRest self.old.run self.new.run) }
         ensures err { OnErr result (IsEnded self.old.run self.new.run) }
 

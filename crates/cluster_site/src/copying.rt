@@ -20,7 +20,8 @@ impl<D: FaultDir + Drop> Site<D> {
     ghost use Rattle.script_serving.specs.declared.script.LineCommand.{LineCommand};
     ghost use Rattle.script_serving.specs.declared.script.LineCommand.TheVariants.{Copy, Settle};
     ghost use Rattle.cluster_state.specs.Given.{SettleTask};
-    ghost use Rattle.cluster_state.specs.Run.{IsEnded};
+    ghost use Rattle.cluster_state.specs.Run.{KeepsRest, IsEnded};
+    ghost use Rattle.cluster_state.specs.Keeping.{KeepsButFiles, KeepsButBegun};
     ghost use Rattle.cluster_state.specs.DueFaults.{MeetsFate, ArrivesBy};
     ghost use Rattle.cluster_state.specs.FilesOut.{file_out};
     ghost use Rattle.cluster_state.specs.Copies.{newest_of, IsCopying, JobRuns};
@@ -45,6 +46,7 @@ impl<D: FaultDir + Drop> Site<D> {
         requires node { IsNode self.old.run.nodes n.0 }
         ensures ok { IfOk result (CopyStarts at n self.old.run self.new.run) }
         ensures exact { IfOk result (CopyStartsWhen at n self.old.run.log) }
+        ensures rest { IfOk result (KeepsButBegun self.old.run self.new.run) }
         ensures err { OnErr result (IsEnded self.old.run self.new.run) }
 
         // what the line is owed
@@ -75,6 +77,7 @@ impl<D: FaultDir + Drop> Site<D> {
             → start_entry at (printed self.old.run.log) ≡ Some begun
             → stopped_log begun row self.old.run.log ≡ Some log
             → StopsTurn log self.old.run self.new.run turn) }
+        ensures rest { OnOk result (KeepsButFiles task.now.node.0 self.old.run self.new.run) }
         ensures err { OnErr result (IsEnded self.old.run self.new.run) }
 
         // what the line is owed
@@ -118,6 +121,7 @@ impl<D: FaultDir + Drop> Site<D> {
             → start_entry at (printed self.old.run.log) ≡ Some begun
             → stopped_log begun row self.old.run.log ≡ Some log
             → StopsTurn log self.old.run self.new.run turn) }
+        ensures rest { OnOk result (KeepsButFiles task.now.node.0 self.old.run self.new.run) }
         ensures err { OnErr result (IsEnded self.old.run self.new.run) }
 
         // what the line is owed
@@ -134,6 +138,7 @@ impl<D: FaultDir + Drop> Site<D> {
         requires running { self.old.run.ended ≡ false }
         requires fresh { entries_of_line at (printed self.old.run.log) ≡ [] }
         ensures ok { IfOk result (SettleStarts at self.old.run self.new.run) }
+        ensures rest { OnOk result (KeepsRest self.old.run self.new.run) }
         ensures err { OnErr result (IsEnded self.old.run self.new.run) }
 
         // what the line is owed
@@ -158,6 +163,7 @@ impl<D: FaultDir + Drop> Site<D> {
         requires settling { IsSettling self.old.run.nodes (printed self.old.run.log) at task.old }
         ensures ok { IfOk result (SettleGoesOn at self.old.run self.new.run task.new) }
         ensures version { task.new.version ≡ task.old.version }
+        ensures rest { IfOk result (KeepsButBegun self.old.run self.new.run) }
         ensures err { OnErr result (IsEnded self.old.run self.new.run) }
 
         // what the line is owed

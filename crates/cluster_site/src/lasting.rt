@@ -9,15 +9,17 @@ use std::alloc::Global;
 
 impl<D: FaultDir + Drop> Site<D> {
     ghost use Rattle.std.specs.Prelude.{ℕ, ◌≡◌, ◌==◌, ◌∷◌, [], false, Some, OnOk, OnErr, IfOk};
-    ghost use Rattle.history_rules.specs.Nodes.{IsNode, is_running};
+    ghost use Rattle.history_rules.specs.Nodes.{IsNode, is_running, is_at, primary_of};
     ghost use Rattle.history_rules.specs.Lines.{entries_of_line, last_of_line};
     ghost use Rattle.history_book.specs.Log.{printed, shown};
     ghost use Rattle.script_serving.specs.declared.script.LineCommand.TheVariants.{Commit, Crash, Reopen};
     ghost use Rattle.cluster_state.specs.GivesUp.{met_log};
     ghost use Rattle.cluster_state.specs.Run.{files_at, plans_at, IsNow, IsEnded};
+    ghost use Rattle.cluster_state.specs.Keeping.{TellsSameOfOthers, KeepsButCommit, KeepsButNode};
     ghost use Rattle.cluster_core.specs.Doing.{IsReplied, IsRepliedAtDone, IsBegunAtWork};
     ghost use Rattle.cluster_site.specs.Sites.{DoesAtSite};
-    ghost use Rattle.cluster_state.specs.LifeCalls.{CommitStarts, CommitSteps, crash_event, crashed_plans, ReopensNode};
+    ghost use Rattle.cluster_state.specs.LifeCalls.{CommitStarts, CommitSteps, crash_event, crashed_plans, CrashesDirBy, ReopensNode};
+    ghost use Rattle.cluster_recovery.specs.Crashes.{CrashTells};
 
     /// Starts a commit of the point that a node searches. A commit that was stopped there is made first. Busy comes exactly where the node
     /// runs and another line's commit is in flight there.
@@ -31,6 +33,7 @@ impl<D: FaultDir + Drop> Site<D> {
         requires fresh { entries_of_line at (printed self.old.run.log) ≡ [] }
         requires node { IsNode self.old.run.nodes n.0 }
         ensures ok { IfOk result (CommitStarts at n self.old.run self.new.run) }
+        ensures rest { OnOk result (KeepsButCommit n.0 self.old.run self.new.run) }
         ensures err { OnErr result (IsEnded self.old.run self.new.run) }
 
         // what the line is owed
@@ -55,6 +58,7 @@ impl<D: FaultDir + Drop> Site<D> {
         requires started { last_of_line at (printed self.old.run.log)
             ≡ Some (Event.Committing task.now.node task.now.version) }
         ensures ok { IfOk result (CommitSteps at task.now.node task.now.version self.old.run self.new.run) }
+        ensures rest { OnOk result (KeepsButCommit task.now.node.0 self.old.run self.new.run) }
         ensures err { OnErr result (IsEnded self.old.run self.new.run) }
 
         // what the line is owed
@@ -77,6 +81,10 @@ impl<D: FaultDir + Drop> Site<D> {
             → files_at m self.new.run ≡ files_at m self.old.run) }
         ensures plans { OnOk result (plans_at n.0 self.new.run
             ≡ crashed_plans (is_running n.0 (printed self.old.run.log)) (plans_at n.0 self.old.run)) }
+        ensures dir { OnOk result (CrashesDirBy (is_running n.0 (printed self.old.run.log))
+            D.cells D.leaves n.0 pick self.old.run self.new.run) }
+        ensures rest { OnOk result (CrashTells (is_running n.0 (printed self.old.run.log))
+            (is_at (primary_of (printed self.old.run.log)) n.0) n.0 self.old.run self.new.run) }
         ensures err { OnErr result (IsEnded self.old.run self.new.run) }
 
         // what the line is owed
@@ -93,6 +101,8 @@ impl<D: FaultDir + Drop> Site<D> {
         requires fresh { entries_of_line at (printed self.old.run.log) ≡ [] }
         requires node { IsNode self.old.run.nodes n.0 }
         ensures ok { OnOk result (ReopensNode at n self.old.run self.new.run) }
+        ensures rest { OnOk result (KeepsButNode n.0 self.old.run self.new.run) }
+        ensures disks { OnOk result (TellsSameOfOthers plans_at n.0 self.old.run self.new.run) }
         ensures err { OnErr result (IsEnded self.old.run self.new.run) }
 
         // what the line is owed

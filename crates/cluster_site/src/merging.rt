@@ -21,6 +21,7 @@ impl<D: FaultDir + Drop> Site<D> {
     ghost use Rattle.merge_tasks.specs.Board.{open_merge, is_unwritten};
     ghost use Rattle.cluster_state.specs.DueFaults.{ArrivesBy};
     ghost use Rattle.cluster_state.specs.Run.{IsEnded};
+    ghost use Rattle.cluster_merges.specs.MergesKept.{KeepsButSizes, KeepsButTasks, KeepsButCut, KeepsCopyTurn, KeepsButCopies};
     ghost use Rattle.cluster_merges.specs.MergePaths.{IsMergedOut, EndsBuild, TakesTask};
     ghost use Rattle.cluster_merges.specs.TaskCalls.{MergeLine, PrecopyTurns, PartTurns, CutTurns, DrainTurns};
     ghost use Rattle.cluster_core.specs.Doing.{IsReplied, IsRepliedAtDone};
@@ -32,6 +33,7 @@ impl<D: FaultDir + Drop> Site<D> {
         requires fresh { entries_of_line at (printed self.old.run.log) ≡ [] }
         requires factor { 2 ≤ factor }
         ensures ok { OnOk result (MergeLine at factor self.old.run self.new.run) }
+        ensures rest { OnOk result (KeepsButSizes self.old.run self.new.run) }
         ensures err { OnErr result (IsEnded self.old.run self.new.run) }
 
         // what the line is owed
@@ -45,6 +47,7 @@ impl<D: FaultDir + Drop> Site<D> {
     pub fn task_take(&mut self, by: Option<At>) -> Result<Option<Task>, NoMemory>
         requires running { self.old.run.ended ≡ false }
         ensures ok { IfOk result (TakesTask by self.old.run self.new.run) }
+        ensures rest { OnOk result (KeepsButTasks self.old.run self.new.run) }
         ensures err { OnErr result (IsEnded self.old.run self.new.run) }
 
         // what its taker is owed
@@ -85,6 +88,7 @@ impl<D: FaultDir + Drop> Site<D> {
         requires node { IsNode self.old.run.nodes copy.node.0 }
         ensures ok { IfOk result (PrecopyTurns task.now.line task.now.seg task.now.by
             copy.node copy.job self.old.run self.new.run) }
+        ensures rest { IfOk result (KeepsCopyTurn copy.node.0 self.old.run self.new.run) }
         ensures err { OnErr result (IsEnded self.old.run self.new.run) }
 
         // what its taker is owed
@@ -110,6 +114,7 @@ impl<D: FaultDir + Drop> Site<D> {
         requires arrives { ArrivesBy file.now arrived }
         ensures ok { IfOk result (PartTurns task.now.line task.now.seg task.now.by
             copy.node copy.job file.now.fate self.old.run self.new.run) }
+        ensures rest { OnOk result (KeepsButCopies copy.node.0 self.old.run self.new.run) }
         ensures err { OnErr result (IsEnded self.old.run self.new.run) }
 
         // what its taker is owed
@@ -125,6 +130,7 @@ impl<D: FaultDir + Drop> Site<D> {
         requires running { self.old.run.ended ≡ false }
         ensures ok { IfOk result (CutTurns task.now.line task.now.seg task.now.by
             self.old.run self.new.run) }
+        ensures rest { OnOk result (KeepsButCut self.old.run self.new.run) }
         ensures err { OnErr result (IsEnded self.old.run self.new.run) }
 
         // what its taker is owed
@@ -139,6 +145,7 @@ impl<D: FaultDir + Drop> Site<D> {
         requires fresh { entries_of_line at (printed self.old.run.log) ≡ [] }
         requires few { counted_for at self.old.run.log ≤ most }
         ensures ok { IfOk result (DrainTurns at most self.old.run self.new.run) }
+        ensures rest { OnOk result (KeepsButTasks self.old.run self.new.run) }
         ensures err { OnErr result (IsEnded self.old.run self.new.run) }
 
         // what the line is owed

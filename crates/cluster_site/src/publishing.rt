@@ -14,6 +14,7 @@ impl<D: FaultDir + Drop> Site<D> {
     ghost use Rattle.history_book.specs.Log.{printed};
     ghost use Rattle.script_serving.specs.declared.script.LineCommand.TheVariants.{Publish};
     ghost use Rattle.cluster_state.specs.Run.{KeepsRest, IsEnded};
+    ghost use Rattle.cluster_state.specs.Keeping.{KeepsButPoint};
     ghost use Rattle.cluster_state.specs.Writes.{IsFlushed};
     ghost use Rattle.cluster_core.specs.Doing.{IsReplied, IsRepliedAtDone, IsBegunAtWork};
     ghost use Rattle.cluster_site.specs.Sites.{DoesAtSite};
@@ -43,6 +44,7 @@ impl<D: FaultDir + Drop> Site<D> {
         requires started { last_of_line at (printed self.old.run.log) ≡ Some Event.Publishing }
         requires work { IsFlushed at self.old.run.log work }
         ensures ok { OnOk result (EndsPublish at self.old.run self.new.run) }
+        ensures rest { OnOk result (KeepsButPoint self.old.run self.new.run) }
         ensures err { OnErr result (IsEnded self.old.run self.new.run) }
 
         // what the line is owed

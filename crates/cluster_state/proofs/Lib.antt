@@ -15,6 +15,7 @@ pub mod JobFrames
 mod JobLaw
 pub mod JobMoves
 pub mod JobsLeft
+pub mod KeptOthers
 pub mod Lasting
 pub mod Ledgers
 pub mod LifeRows
@@ -26,6 +27,7 @@ pub mod MetFails
 pub mod MetLines
 pub mod MetStands
 pub mod Naming
+pub mod NodeDirs
 pub mod Planned
 pub mod PointStands
 pub mod Points

@@ -1,10 +1,11 @@
 -- All that is true of a cluster, behind the faults that were met, in the terms of a call.
-use Rattle.std.proofs.Common.{◌≡◌, ◌∷◌, ℕ, zero, suc, Bool, false, List, [], Some, None, Option, Ok, Err, Result, refl, ap, ◌∙◌, sym, subst, length, map}
+use Rattle.std.proofs.Common.{◌≡◌, ◌∷◌, ℕ, zero, suc, Bool, true, false, List, [], Some, None, Option, Ok, Err, Result, refl, ap, ◌∙◌, sym, subst, length, map}
 use Rattle.std.specs.Prelude.{OnErr, unwrap_or, option_map}
 use Rattle.std.specs.List.{slice_get}
 use Rattle.std.proofs.lemmas.Option.{slice_get-map}
 use Rattle.std.proofs.lemmas.List.{length-map}
 use Rattle.nrt_base.specs.declared.numbers.At.{At}
+use Rattle.nrt_base.specs.declared.numbers.NodeNo.{NodeNo}
 use Rattle.disk_model.specs.Disk.{Cells}
 use Rattle.disk_model.specs.Faults.{Plans}
 use Rattle.history_book.specs.Log.{Log}
@@ -13,7 +14,7 @@ use Rattle.merge_tasks.specs.Board.{Board}
 use Rattle.cluster_nodes.specs.declared.nodes.NodePlace.{NodePlace}
 use Rattle.cluster_nodes.specs.Places.{unwrapped, place_of}
 use Rattle.cluster_state.specs.Run.{Rest, Run, no_plans, plans_at, IsNow}
-use Rattle.cluster_state.specs.Met.{failures_by_plan, met_in, with_met, ClusterStands}
+use Rattle.cluster_state.specs.Met.{failures_by_plan, has_risen, met_in, with_met, ClusterStands}
 use Rattle.cluster_state.specs.PlansIn.{place_plans, plans_in}
 use Rattle.cluster_state.specs.GivesUp.{met_log}
 use Rattle.cluster_state.proofs.Faulted.{faulted}
@@ -43,6 +44,22 @@ met_plans planned [] = refl
 met_plans planned (None ∷ places) = ap (λ (l : List (ℕ × ℕ)). (0, 0) ∷ l) (met_plans planned places)
 met_plans planned (Some place ∷ places) = ap (λ (l : List (ℕ × ℕ)). met_in planned (Some place) ∷ l) (met_plans planned places)
 
+-- what each disk had met before a call, and has met behind it, by what callers see
+was_told : {D : Type 0} (planned : D → Plans) (old : List (Option (NodePlace D))) (r : Run) (ended : Bool) (b0 : Sheet) (olds : List (ℕ × ℕ)) → {left : Rest} → record { ended = ended; nodes = b0.nodes; log = b0.log; rest = left } ≡ r
+    → olds ≡ map (met_in planned) old → left.plans ≡ plans_in planned old → olds ≡ map failures_by_plan r.rest.plans
+was_told planned old r ended b0 olds view was_met was = was_met ∙ (met_plans planned old ∙ (ap (λ (l : List Plans). map failures_by_plan l) (sym was) ∙ ap (λ (x : Run). map failures_by_plan x.rest.plans) view))
+
+is_told : {D : Type 0} (planned : D → Plans) (new : List (Option (NodePlace D))) (news : List (ℕ × ℕ)) → {later : List Plans} → news ≡ map (met_in planned) new → later ≡ plans_in planned new → news ≡ map failures_by_plan later
+is_told planned new news is_met are = is_met ∙ (met_plans planned new ∙ ap (λ (l : List Plans). map failures_by_plan l) (sym are))
+
+-- a disk that failed, by what each had met, has failed as callers see it
+pub fails_as_told : {D : Type 0} (planned : D → Plans) (old new : List (Option (NodePlace D))) (r : Run) (ended : Bool) (b0 : Sheet) (p : NodeNo) (olds news : List (ℕ × ℕ)) → {left : Rest} → {later : List Plans}
+    → record { ended = ended; nodes = b0.nodes; log = b0.log; rest = left } ≡ r
+    → olds ≡ map (met_in planned) old → left.plans ≡ plans_in planned old → news ≡ map (met_in planned) new → later ≡ plans_in planned new
+    → has_risen p.0 1 olds news ≡ true → has_risen p.0 1 (map failures_by_plan r.rest.plans) (map failures_by_plan later) ≡ true
+fails_as_told planned old new r ended b0 p olds news view was_met was is_met are risen =
+    (λ i. has_risen p.0 1 (sym (was_told planned old r ended b0 olds view was_met was) i) (sym (is_told planned new news is_met are) i)) ∙ risen
+
 -- the log behind what the disks of these places met is that behind what their plans tell
 pub met_as_told : {D : Type 0} (planned : D → Plans) (old new : List (Option (NodePlace D))) (r : Run) (ended : Bool) (b0 b1 : Sheet) (at : At) (olds news : List (ℕ × ℕ)) → {left : Rest} → {later : List Plans}
     → record { ended = ended; nodes = b0.nodes; log = b0.log; rest = left } ≡ r → b1.log ≡ b0.log
@@ -50,9 +67,7 @@ pub met_as_told : {D : Type 0} (planned : D → Plans) (old new : List (Option (
     → with_met false at 1 olds news b1.log ≡ with_met false at 1 (map failures_by_plan r.rest.plans) (map failures_by_plan later) r.log
 met_as_told planned old new r ended b0 b1 at olds news {left = left} {later = later} view e1 was_met was is_met are =
     let same : b1.log ≡ r.log = e1 ∙ ap (λ (x : Run). x.log) view in
-    let first : olds ≡ map failures_by_plan r.rest.plans = was_met ∙ (met_plans planned old ∙ (ap (λ (l : List Plans). map failures_by_plan l) (sym was) ∙ ap (λ (x : Run). map failures_by_plan x.rest.plans) view)) in
-    let second : news ≡ map failures_by_plan later = is_met ∙ (met_plans planned new ∙ ap (λ (l : List Plans). map failures_by_plan l) (sym are)) in
-    λ i. with_met false at 1 (first i) (second i) (same i)
+    λ i. with_met false at 1 (was_told planned old r ended b0 olds view was_met was i) (is_told planned new news is_met are i) (same i)
 
 -- a call has ended with its entries in front of the faults that were met
 pub now_behind : {D : Type 0} (planned : D → Plans) (old new : List (Option (NodePlace D))) (r : Run) {now : Rest} (ended : Bool) (b0 b1 b2 : Sheet) (at : At) (olds news : List (ℕ × ℕ)) (entries : Log → Log) → {left : Rest}

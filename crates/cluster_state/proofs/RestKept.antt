@@ -41,18 +41,18 @@ rest_then a b c first second = second ∙ ap (λ (left : Rest). record left { pl
 
 -- ---- over places
 
-abbrev first_sizes : List (Option (List (Option ℕ))) → List (Option ℕ)
+abbrev pub first_sizes : List (Option (List (Option ℕ))) → List (Option ℕ)
 first_sizes [] = []
 first_sizes (None ∷ l) = first_sizes l
 first_sizes (Some s ∷ l) = s
 
 module _ {D : Type 0} where
   -- the sizes of the primary in a place, where one is there
-  abbrev place_sizes : Option (NodePlace D) → Option (List (Option ℕ))
+  abbrev pub place_sizes : Option (NodePlace D) → Option (List (Option ℕ))
   place_sizes None = None
   place_sizes (Some place) = elim place.node [ Primary p ↦ Some (merge_sizes p) | Replica r ↦ None | Down d ↦ None ]
 
-  sizes_first : (places : List (Option (NodePlace D))) → sizes_in places ≡ first_sizes (map place_sizes places)
+  pub sizes_first : (places : List (Option (NodePlace D))) → sizes_in places ≡ first_sizes (map place_sizes places)
   sizes_first [] = refl
   sizes_first (None ∷ places) = sizes_first places
   sizes_first (Some place ∷ places) = by place.node (sizes_first places)

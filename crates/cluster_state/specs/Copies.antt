@@ -1,5 +1,5 @@
 -- What copies hand out, take back and end with.
-use Rattle.std.specs.Prelude.{ℕ, ◌≡◌, ◌≢◌, ◌<◌, List, [], ◌∷◌, false, not, Bool, true, Option, Some, None}
+use Rattle.std.specs.Prelude.{ℕ, ◌≡◌, ◌≢◌, ◌<◌, List, [], ◌∷◌, false, not, Bool, true, Option, Some, None, ⊤, ◌⊎◌}
 use Rattle.std.specs.List.{filter}
 use Rattle.nrt_base.specs.declared.numbers.At.{At}
 use Rattle.nrt_base.specs.declared.numbers.NodeNo.{NodeNo}
@@ -25,7 +25,7 @@ use Rattle.cluster_nodes.specs.declared.tasks.FileTask.{FileTask}
 use Rattle.merge_tasks.specs.Fates.{fate_due}
 use Rattle.cluster_state.specs.DueFaults.{MeetsFate, handed_log}
 use Rattle.cluster_state.specs.Run.{JobFiles, Run, files_at, IsNow}
-use Rattle.cluster_state.specs.GivesUp.{met_log}
+use Rattle.cluster_state.specs.GivesUp.{met_log, disk_failed, PrimaryFails}
 
 -- the newest version
 abbrev pub newest_of : Past → Version
@@ -107,14 +107,21 @@ abbrev pub GoesOn : Job → Run → Run → Option FileTask → Type 0
 GoesOn job old new (Some file) = HandsFile job old new file
 GoesOn job old new None = IsNow old new (ended_log job (start_entry job.at (printed old.log)) (met_log job.at old new))
 
+-- where the cause is a disk, that of the primary or of the node failed in this very call
+abbrev pub FailsFor : NodeNo → Cause → Run → Run → Type 0
+FailsFor n DiskFault old new = PrimaryFails old new ⊎ (disk_failed n.0 old new ≡ true)
+FailsFor n cause old new = ⊤
+
 -- the line of a job was refused for this cause, behind the faults of disks that it met, and the job has ended; its node keeps the files that
 -- it has brought over for the next one
 pub record JobRefused (job : Job) (cause : Cause) (old new : Run) : Type 0 where
   pub now : IsNow old new (kept (JobEnd job.at.line job.node job.number) ∷ shown job.at (Refused cause) ∷ met_log job.at old new)
   pub files : files_at job.node.0 new ≡ files_at job.node.0 old
+  pub failed : FailsFor job.node cause old new
 
--- a line was refused as the disk of its source failed, behind these entries: no job began at the node, and the one that is there has the
--- files that it had
+-- a line was refused as the disk of its source failed in this call, behind these entries: no job began at the node, and the one that is there
+-- has the files that it had
 pub record BeginsNoJob (at : At) (n : NodeNo) (old new : Run) (log : Log) : Type 0 where
   pub now : IsNow old new (shown at (Refused DiskFault) ∷ log)
   pub files : files_at n.0 new ≡ files_at n.0 old
+  pub failed : PrimaryFails old new

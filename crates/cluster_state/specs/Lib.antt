@@ -10,6 +10,7 @@ pub mod FilesOut
 pub mod Given
 pub mod GivesUp
 pub mod JobsIn
+pub mod Keeping
 pub mod LifeCalls
 pub mod Lists
 pub mod Lives
@@ -19,6 +20,7 @@ pub mod Merging
 pub mod Met
 pub mod Moves
 pub mod Names
+pub mod NodeDirs
 pub mod PlansIn
 pub mod Run
 pub mod Settles

@@ -3,6 +3,7 @@ use Rattle.std.specs.Prelude.{ℕ, ◌≡◌, ◌≢◌, ◌&&◌, [], ◌∷◌
 use Rattle.nrt_base.specs.declared.numbers.At.{At}
 use Rattle.nrt_base.specs.declared.numbers.NodeNo.{NodeNo}
 use Rattle.nrt_base.specs.declared.numbers.Version.{Version}
+use Rattle.disk_model.specs.Disk.{Cells, Image, restarted}
 use Rattle.disk_model.specs.Faults.{Plans, ended}
 use Rattle.history_rules.specs.declared.cause.Cause.{Cause}
 use Rattle.history_rules.specs.declared.cause.Cause.TheVariants.{Lost, Up}
@@ -16,6 +17,7 @@ use Rattle.merge_tasks.specs.Board.{Board}
 use Rattle.script_serving.specs.Refusals.{when, without_node}
 use Rattle.cluster_nodes.specs.declared.tasks.CommitTask.{CommitTask}
 use Rattle.cluster_state.specs.Run.{Run, calls_at, IsNow}
+use Rattle.cluster_state.specs.NodeDirs.{IsNodeDir}
 use Rattle.cluster_state.specs.GivesUp.{met_log}
 use Rattle.cluster_state.specs.Lives.{BeginsCommit, MakesCall, reopen_reply, MayReopenAt, MakesCommit, StopsCommit}
 use Rattle.cluster_state.specs.declared.turn.Turn.{Turn}
@@ -49,6 +51,19 @@ crash_event n past = by_refusal (without_node n.0 past) (Crashed n)
 abbrev pub crashed_plans : Bool → Plans → Plans
 crashed_plans true old = ended old
 crashed_plans false old = old
+
+-- the directory of the node is what the crash with this number leaves of the one before
+pub record CrashesDir {D : Type 0} (cells : D → Cells) (leaves : D → ℕ → Image) (n pick : ℕ) (old new : Run) : Type 0 where
+  pub dir : D
+  pub was : IsNodeDir cells old n dir
+  pub now : D
+  pub is : IsNodeDir cells new n now
+  pub left : cells now ≡ restarted (leaves dir pick)
+
+-- the same of a line that crashes a node where it runs
+abbrev pub CrashesDirBy : {D : Type 0} → Bool → (D → Cells) → (D → ℕ → Image) → (n pick : ℕ) → Run → Run → Type 0
+CrashesDirBy true cells leaves n pick old new = CrashesDir cells leaves n pick old new
+CrashesDirBy false cells leaves n pick old new = Unit {0}
 
 -- the tasks of merges after a crash: none is posted and no merge is in flight where the primary crashed
 abbrev pub crashed_tasks : Bool → Board → Board

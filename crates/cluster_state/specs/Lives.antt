@@ -1,5 +1,5 @@
 -- What commits, crashes and reopenings of nodes leave behind.
-use Rattle.std.specs.Prelude.{ℕ, ◌≡◌, ◌≢◌, ◌+◌, [], ◌∷◌, Bool, true, false, Option, Some, None, map, ◌-◌, nat_lt, if◌then◌else◌}
+use Rattle.std.specs.Prelude.{ℕ, ◌≡◌, ◌≢◌, ◌+◌, [], ◌∷◌, Bool, true, false, Option, Some, None, ◌-◌, nat_lt, if◌then◌else◌}
 use Rattle.nrt_base.specs.declared.numbers.At.{At}
 use Rattle.nrt_base.specs.declared.numbers.NodeNo.{NodeNo}
 use Rattle.nrt_base.specs.declared.numbers.Version.{Version}
@@ -13,9 +13,9 @@ use Rattle.history_book.specs.Log.{Log, printed, shown}
 use Rattle.cluster_nodes.specs.declared.tasks.CommitTask.{CommitTask}
 use Rattle.cluster_nodes.specs.declared.went.Went.{Went}
 use Rattle.cluster_nodes.specs.declared.went.Went.TheVariants.{Done, Failed}
-use Rattle.cluster_state.specs.GivesUp.{met_log}
+use Rattle.cluster_state.specs.GivesUp.{met_log, disk_failed}
 use Rattle.cluster_state.specs.Run.{Run, calls_at, IsNow}
-use Rattle.cluster_state.specs.Met.{failures_by_plan, with_met, has_risen}
+use Rattle.cluster_state.specs.Met.{with_met}
 
 -- A line starts a commit of the version that the node searches: it needs six calls of the directory more than the one before it that
 -- was stopped. Where the node is not stuck, there is none.
@@ -42,9 +42,10 @@ pub record MakesCommit (at : At) (n : NodeNo) (v : Version) (old new : Run) : Ty
 abbrev pub stopped_calls : ℕ → ℕ
 stopped_calls k = if nat_lt 6 k then k - 6 else k
 
--- a disk failed: the line is refused, and the commit stays as it is
+-- the disk of the node failed in this call: the line is refused, and the commit stays as it is
 pub record StopsCommit (at : At) (n : NodeNo) (old new : Run) : Type 0 where
   pub now : IsNow old new (shown at (Refused DiskFault) ∷ met_log at old new)
+  pub failed : disk_failed n.0 old new ≡ true
   pub calls : calls_at n.0 new ≡ stopped_calls (calls_at n.0 old)
   pub more : calls_at n.0 new ≢ 0
 
@@ -62,10 +63,6 @@ met_at at n old new log = with_met false at n (old ∷ []) (new ∷ []) log
 abbrev pub reopen_reply : NodeNo → Option Version → Event
 reopen_reply n (Some v) = Reopened n v
 reopen_reply n None = Refused DiskFault
-
--- a fault of the node's disk was met from the one to the other
-abbrev pub disk_failed : ℕ → Run → Run → Bool
-disk_failed n old new = has_risen n 1 (map failures_by_plan old.rest.plans) (map failures_by_plan new.rest.plans)
 
 -- a reopening may find this version, and its disk met no fault; or its disk met one
 abbrev pub MayReopenAt : ℕ → Option Version → Run → Run → Type 0

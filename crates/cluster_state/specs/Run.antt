@@ -69,6 +69,11 @@ abbrev pub is_docs_of : ℕ → Option Name → Bool
 is_docs_of seg None = false
 is_docs_of seg (Some q) = same q (part_name_of seg Docs)
 
+-- the copies of merged segments that run at a node
+abbrev pub merged_at : ℕ → Run → List MergedCopy
+merged_at zero r = []
+merged_at (suc k) r = unwrap_or (slice_get r.rest.copies k) []
+
 -- among these copies the one of this number is of this segment, and misses a file
 abbrev pub misses_file : ℕ → ℕ → List MergedCopy → Bool
 misses_file seg number [] = false
@@ -77,7 +82,7 @@ misses_file seg number (c ∷ copies) = if c.number == number then is_docs_of se
 -- the same of the copies at a node
 abbrev pub misses_at : ℕ → ℕ → ℕ → Run → Bool
 misses_at seg zero number r = false
-misses_at seg (suc k) number r = misses_file seg number (unwrap_or (slice_get r.rest.copies k) [])
+misses_at seg (suc k) number r = misses_file seg number (merged_at (suc k) r)
 
 -- the call has ended well, and this is the log now
 pub record IsNow (old new : Run) (now : List Mark) : Type 0 where

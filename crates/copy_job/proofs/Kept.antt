@@ -8,6 +8,7 @@ use Rattle.std.specs.Cmp.Lexicographic.{slice_cmp}
 use Rattle.std.proofs.lemmas.List.Kept.{IsStrictlySortedBy-filter}
 use Rattle.nrt_base.proofs.Plain.{sorted_none}
 use Rattle.disk_model.specs.Disk.{Name, Cells, same}
+use Rattle.disk_model.specs.declared.dir.DirFault.{DirFault}
 use Rattle.disk_model.proofs.CellLemmas.{same_true}
 use Rattle.file_deleter.specs.Holdings.{Holdings, times}
 use Rattle.file_deleter.specs.Moves.{Creates, MovesCounts}
@@ -139,7 +140,7 @@ job_arrived j p missing parts h some m_is p_is = record {
         omega (arith, a, b, h.each q)
 
 pub moves_arrived : (done : Unit {0}) (bytes : List ℕ) (old new : Holdings) (before after : Cells) (reused : List Name) (parts now : List JobPart) (p : JobPart)
-    → Creates {T = Unit {0}} {E = JobFault} p.now bytes old new before after (Ok done) → now ≡ insert_part p parts
+    → Creates {T = Unit {0}} {E = DirFault} p.now bytes old new before after (Ok done) → now ≡ insert_part p parts
     → MovesCounts (p.now ∷ []) (present_names parts ++ reused) (present_names now ++ reused) old new before after
 moves_arrived done bytes old new before after reused parts now p c parts_are = record {
   balance = λ q.
@@ -158,7 +159,7 @@ part_added was j name now missing parts is temp m p =
     one ∙ ap (λ (x : Job). with_part x name) is
 
 pub moves_added : (was j : Job) (done : Unit {0}) (bytes : List ℕ) (old new : Holdings) (before after : Cells) (parts : List JobPart) (missing : List Name) (name now : Name)
-    → was ≡ j → now ≡ temp_name_of name was.number → Creates {T = Unit {0}} {E = JobFault} now bytes old new before after (Ok done) → parts ≡ insert_part (record { own = name; now = now }) was.parts
+    → was ≡ j → now ≡ temp_name_of name was.number → Creates {T = Unit {0}} {E = DirFault} now bytes old new before after (Ok done) → parts ≡ insert_part (record { own = name; now = now }) was.parts
     → MovesCounts (temp_name_of name j.number ∷ []) (job_names j) (job_names (record was { missing = missing; parts = parts })) old new before after
 moves_added was j done bytes old new before after parts missing name now is temp c p =
     let moves : MovesCounts (now ∷ []) (job_names was) (job_names (record was { missing = missing; parts = parts })) old new before after =

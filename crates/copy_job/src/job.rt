@@ -5,6 +5,7 @@ ghost use Rattle.std.specs.Vec.{vec_capacity};
 ghost use Rattle.nrt_base.specs.Causes.{Rose};
 ghost use Rattle.file_names.specs.Names.{temp_name_of};
 ghost use Rattle.disk_model.specs.Disk.{same};
+ghost use Rattle.disk_model.specs.Faults.{IsMemoryOrFailed};
 ghost use Rattle.file_deleter.specs.Holdings.{count_of, times, IsWhole, AreCounted};
 ghost use Rattle.file_deleter.specs.Moves.{MovesCounts, LetsGo};
 ghost use Rattle.std.specs.List.Sorted.{IsStrictlySortedBy};
@@ -15,15 +16,14 @@ ghost use Rattle.copy_job.specs.Parts.{ArePlaceable, own_names};
 ghost use Rattle.copy_job.specs.Placing.{Places, IsPlacingFault};
 ghost use Rattle.copy_job.specs.Jobs.{IsJob, job_names, begun_job, with_part, taken_over, AreAgreed, IsBeginningFault};
 
-use crate::arriving::write_part;
 use crate::copying::Part;
 use crate::fault::JobFault;
-use crate::part::{JobKind, JobPart};
+use crate::part::{JobKind, JobPart, put_part};
 use crate::placing::place;
 use crate::sorting::{Sorted, sort_out};
 use crate::takeover::{Wants, strike_own, take_parts};
 use copy_state::{CopyState, FileMetaData};
-use disk_model::Dir;
+use disk_model::{Dir, DirFault};
 use file_deleter::FileDeleter;
 use file_names::{FileName, temp_name};
 use nrt_base::{List, NoMemory};
@@ -94,6 +94,19 @@ fn names_with_room(
     copies.extend_from_slice(names)?;
     copies.reserve(more)?;
     Ok(copies)
+}
+
+// The fault of a job whose part is not written.
+fn unwritten(fault: DirFault) -> JobFault
+    requires { IsMemoryOrFailed fault }
+    ensures fault { IsPlacingFault result }
+    ensures failed { result ≡ JobFault.DirFailed → fault ≡ DirFault.Failed }
+{
+    match fault {
+        DirFault::Memory => JobFault::Memory,
+        DirFault::Failed => JobFault::DirFailed,
+        DirFault::Missing | DirFault::Exists => unreachable!(),
+    }
 }
 
 impl CopyJob {
@@ -202,12 +215,13 @@ impl CopyJob {
             own: name,
             now: temp_name(&name, self.number),
         };
-        match write_part(arrived, bytes, &mut self.parts, &mut self.names, files, dir) {
+        match files.create(arrived.now, bytes, dir) {
             Ok(()) => {
+                put_part(&mut self.parts, &mut self.names, arrived);
                 strike(&mut self.missing, &name);
                 Ok(())
             }
-            Err(fault) => Err(fault),
+            Err(fault) => Err(unwritten(fault)),
         }
     }
 

@@ -1,7 +1,6 @@
 //! Copies of files from one node to another.
 #![tactic(auto)]
 
-mod arriving;
 mod copying;
 mod fault;
 mod job;

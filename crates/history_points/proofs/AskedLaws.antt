@@ -1,16 +1,20 @@
 -- Where the operations of versions were written, and what is kept of them.
-use Rattle.std.proofs.Common.{◌≡◌, ◌==◌, ◌≤◌, ◌+◌, ◌∙◌, ℕ, List, [], ◌∷◌, ◌++◌, length, take, drop, reverse, nat_le, if◌then◌else◌, Bool, true, false, ◌&&◌, refl, sym, ap, subst, arith, take-append-drop, length-take-le}
-use Rattle.std.specs.BTreeMap.{BTreeMap, IsOrdered}
+use Rattle.std.proofs.Common.{◌≡◌, ◌==◌, ◌≤◌, ◌<◌, ◌+◌, ◌^◌, ◌∙◌, ℕ, List, [], ◌∷◌, ◌++◌, length, take, drop, reverse, nat_le, if◌then◌else◌, Bool, true, false, ◌&&◌, refl, sym, ap, subst, arith, take-append-drop, length-take-le}
+use Rattle.std.specs.BTreeMap.{BTreeMap}
 use Rattle.std.proofs.lemmas.Bool.{le-leb}
 use Rattle.std.proofs.lemmas.Bool.Decides.{nat_tests}
-use Rattle.std.proofs.lemmas.List.{length-append, length-reverse, reverse-append}
+use Rattle.std.specs.List.{list_any}
+use Rattle.std.proofs.lemmas.List.{length-append, length-map, length-reverse, reverse-append}
 use Rattle.nrt_base.specs.declared.doc.Doc.{Doc}
 use Rattle.nrt_base.specs.declared.numbers.At.{At}
 use Rattle.nrt_base.specs.declared.numbers.Gen.{Gen}
 use Rattle.nrt_base.specs.declared.numbers.NodeNo.{NodeNo}
 use Rattle.nrt_base.specs.declared.numbers.Version.{Version}
 use Rattle.documents.specs.declared.operation.Op.{Op}
-use Rattle.documents.specs.Documents.{IsAscending, documents_in, documents_after, after_op, key_cmp}
+use Rattle.documents.specs.declared.answer.Answer.{Answer}
+use Rattle.documents.specs.declared.query.Query.{Query}
+use Rattle.documents.specs.Documents.{IsAscending, document_of, documents_in, documents_after, after_op}
+use Rattle.documents.specs.Ranking.{is_too_high, scan_of}
 use Rattle.documents.proofs.DocumentLemmas.{documents_after_last, documents_ascend}
 use Rattle.history_rules.specs.declared.entry.Entry.{Entry}
 use Rattle.history_rules.specs.declared.entry.Event.{Event}
@@ -22,6 +26,8 @@ use Rattle.history_rules.proofs.PointLemmas.{length-documents_at-le}
 use Rattle.history_facts.proofs.WrittenLemmas.{started}
 use Rattle.known_past.proofs.Given.{start_short}
 use Rattle.history_points.specs.declared.asked.AskedPoint.{AskedPoint}
+use Rattle.history_points.specs.declared.searched.Searched.{Searched}
+use Rattle.history_points.specs.Kept.{IsSearched}
 use Rattle.history_points.specs.AskedPoints.{place_at, oldest, IsPlaceOfPoint, ArePlacesOfPoints, IsAskedPoint, HoldsPoint}
 
 -- one entry more is none of the oldest
@@ -139,32 +145,32 @@ same_written past e docs accepted promoted was = was ∙ ap documents_after (sym
     same event accepted promoted = refl
 
 -- what is kept after one more entry, where the texts stay
-pub asked_next : (past : Past) (e : Entry) (old new : AskedPoint) → IsAskedPoint past old → ArePlacesOfPoints (e ∷ past) new.places → new.count ≡ old.count → new.texts ≡ old.texts → IsAskedPoint (e ∷ past) new
-asked_next past e old new asked places count texts = record {
+pub asked_next : (past : Past) (e : Entry) (old new : AskedPoint) → IsAskedPoint past old → ArePlacesOfPoints (e ∷ past) new.places → new.count ≡ old.count → new.searched ≡ old.searched → IsAskedPoint (e ∷ past) new
+asked_next past e old new asked places count searched = record {
   places = places;
   low = let low = asked.low in omega (arith, low, count);
-  ordered = subst (IsOrdered key_cmp) (sym texts) asked.ordered;
+  kept = subst IsSearched (sym searched) asked.kept;
   texts =
-      ap documents_in texts ∙ asked.texts ∙ ap (λ (p : Past). documents_after (operations_written p)) (sym (oldest-more old.count e past asked.low))
+      ap (λ (s : Searched). documents_in s.texts) searched ∙ asked.texts ∙ ap (λ (p : Past). documents_after (operations_written p)) (sym (oldest-more old.count e past asked.low))
       ∙ ap (λ (k : ℕ). documents_after (operations_written (oldest k (e ∷ past)))) (sym count);
 }
 
 -- the texts that are kept, as those of the first entries
 pub asked_texts : (entries : List Entry) (asked : AskedPoint) → IsAskedPoint (reverse entries) asked
-    → documents_in asked.texts ≡ documents_after (operations_written (reverse (take asked.count entries)))
+    → documents_in asked.searched.texts ≡ documents_after (operations_written (reverse (take asked.count entries)))
 asked_texts entries asked h =
     let low : asked.count ≤ length entries = subst (λ (n : ℕ). asked.count ≤ n) (length-reverse entries) h.low in
     h.texts ∙ ap (λ (p : Past). documents_after (operations_written p)) (oldest-reverse entries asked.count low)
 
 -- what is kept where the texts went on to what so many entries wrote
 pub asked_there : (entries : List Entry) (old new : AskedPoint) (place : ℕ) → IsAskedPoint (reverse entries) old → place ≤ length entries → new.places ≡ old.places → new.count ≡ place
-    → IsOrdered key_cmp new.texts → documents_in new.texts ≡ documents_after (operations_written (reverse (take place entries))) → IsAskedPoint (reverse entries) new
-asked_there entries old new place asked low places count ordered texts =
+    → IsSearched new.searched → documents_in new.searched.texts ≡ documents_after (operations_written (reverse (take place entries))) → IsAskedPoint (reverse entries) new
+asked_there entries old new place asked low places count kept texts =
     let size : length (reverse entries) ≡ length entries = length-reverse entries in
     record {
       places = subst (ArePlacesOfPoints (reverse entries)) (sym places) asked.places;
       low = omega (arith, low, count, size);
-      ordered = ordered;
+      kept = kept;
       texts =
           texts ∙ ap (λ (p : Past). documents_after (operations_written p)) (sym (oldest-reverse entries place low))
           ∙ ap (λ (k : ℕ). documents_after (operations_written (oldest k (reverse entries)))) (sym count);
@@ -190,18 +196,45 @@ reached_point past old new v place was is now count = record {
 pub point_ascends : (past : Past) (v : ℕ) (docs : List Doc) → docs ≡ documents_at past v → IsAscending docs
 point_ascends past v docs is = subst IsAscending (sym is) (documents_ascend (operations_at past v))
 
--- they are no more than operations were accepted
-pub point_few : (past : Past) (v : ℕ) (docs : List Doc) → docs ≡ documents_at past v → length docs ≤ accepted_count past
-point_few past v docs is = subst (λ (ds : List Doc). length ds ≤ accepted_count past) (sym is) (length-documents_at-le past v)
+-- there are no more texts than operations were accepted
+pub texts_few : (past : Past) (v : ℕ) (asked : AskedPoint) → HoldsPoint past v asked → accepted_count past < 2 ^ 32 → length asked.searched.texts.entries < 2 ^ 32
+texts_few past v asked holds few =
+    let size : length (documents_in asked.searched.texts) ≡ length asked.searched.texts.entries = length-map asked.searched.texts.entries document_of in
+    let same : length (documents_in asked.searched.texts) ≡ length (documents_at past v) = ap (λ (ds : List Doc). length ds) holds.point in
+    omega (arith, size, same, length-documents_at-le past v, few)
+
+-- the scan of the texts is that of the point
+pub answer_there : (past : Past) (v : ℕ) (asked : AskedPoint) (query : Query) (answer : Answer) → HoldsPoint past v asked → answer ≡ scan_of (documents_in asked.searched.texts) query
+    → answer ≡ scan_of (documents_at past v) query
+answer_there past v asked query answer holds is = is ∙ ap (λ (ds : List Doc). scan_of ds query) holds.point
+
+-- a document that ranks too high is one of the point
+pub high_there : (past : Past) (v : ℕ) (asked : AskedPoint) (query : Query) → HoldsPoint past v asked → list_any (is_too_high query) (documents_in asked.searched.texts) ≡ true
+    → list_any (is_too_high query) (documents_at past v) ≡ true
+high_there past v asked query holds high = ap (list_any (is_too_high query)) (sym holds.point) ∙ high
+
+-- what is kept after a search, where the texts stay
+pub answered : (past : Past) (v : ℕ) (old new : AskedPoint) → HoldsPoint past v old → new.places ≡ old.places → new.count ≡ old.count → new.searched.texts ≡ old.searched.texts → IsSearched new.searched
+    → IsAskedPoint past new
+answered past v old new holds places count texts kept = record {
+  places = subst (ArePlacesOfPoints past) (sym places) holds.kept.places;
+  low = let low = holds.kept.low in omega (arith, low, count);
+  kept = kept;
+  texts = ap documents_in texts ∙ holds.kept.texts ∙ ap (λ (k : ℕ). documents_after (operations_written (oldest k past))) (sym count);
+}
+
+-- there are as many texts as documents
+pub count_there : (past : Past) (v : ℕ) (asked : AskedPoint) (count : ℕ) → HoldsPoint past v asked → count ≡ length asked.searched.texts.entries → count ≡ length (documents_at past v)
+count_there past v asked count holds is = is ∙ sym (length-map asked.searched.texts.entries document_of) ∙ ap (λ (ds : List Doc). length ds) holds.point
 
 -- where the texts were made of the documents of a version they are those of its point
 pub made_point : (past : Past) (old new : AskedPoint) (v place : ℕ) (docs : List Doc) → IsAskedPoint past old → place ≡ place_at old.places v → new.places ≡ old.places → new.count ≡ place
-    → IsOrdered key_cmp new.texts → documents_in new.texts ≡ docs → docs ≡ documents_at past v → HoldsPoint past v new
-made_point past old new v place docs was is places count ordered texts point = record {
+    → IsSearched new.searched → documents_in new.searched.texts ≡ docs → docs ≡ documents_at past v → HoldsPoint past v new
+made_point past old new v place docs was is places count kept texts point = record {
   kept = record {
     places = subst (ArePlacesOfPoints past) (sym places) was.places;
     low = let low = (was.places v).low in omega (arith, low, is, count);
-    ordered = ordered;
+    kept = kept;
     texts =
         texts ∙ point ∙ ap documents_after (was.places v).operations
         ∙ ap (λ (k : ℕ). documents_after (operations_written (oldest k past))) (sym (count ∙ is));

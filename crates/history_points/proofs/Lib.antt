@@ -1,2 +1,6 @@
 mod AskedLaws
+mod BestLaws
+mod CandidateLaws
+mod EntryLaws
+mod KeptLaws
 mod WalkLemmas

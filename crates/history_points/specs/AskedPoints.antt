@@ -1,11 +1,12 @@
 -- What is kept of the documents that searches ask for.
 use Rattle.std.specs.Prelude.{ℕ, ◌≡◌, ◌≤◌, [], ◌∷◌, length, nat_le, if◌then◌else◌, unwrap_or}
 use Rattle.std.specs.Ordering.{nat_cmp}
-use Rattle.std.specs.BTreeMap.{BTreeMap, IsOrdered, get}
-use Rattle.documents.specs.Documents.{documents_in, documents_after, key_cmp}
+use Rattle.std.specs.BTreeMap.{BTreeMap, get}
+use Rattle.documents.specs.Documents.{documents_in, documents_after}
 use Rattle.history_rules.specs.Nodes.{Past}
 use Rattle.history_rules.specs.Points.{operations_written, operations_at, documents_at}
 use Rattle.history_points.specs.declared.asked.AskedPoint.{AskedPoint}
+use Rattle.history_points.specs.Kept.{IsSearched}
 
 -- so many of the oldest entries
 abbrev pub oldest : ℕ → Past → Past
@@ -29,10 +30,10 @@ ArePlacesOfPoints past places = (v : ℕ) → IsPlaceOfPoint past v (place_at pl
 pub record IsAskedPoint (past : Past) (asked : AskedPoint) : Type 0 where
   pub places : ArePlacesOfPoints past asked.places
   pub low : asked.count ≤ length past
-  pub ordered : IsOrdered key_cmp asked.texts
-  pub texts : documents_in asked.texts ≡ documents_after (operations_written (oldest asked.count past))
+  pub kept : IsSearched asked.searched
+  pub texts : documents_in asked.searched.texts ≡ documents_after (operations_written (oldest asked.count past))
 
 -- the texts are those of the point of the version
 pub record HoldsPoint (past : Past) (v : ℕ) (asked : AskedPoint) : Type 0 where
   pub kept : IsAskedPoint past asked
-  pub point : documents_in asked.texts ≡ documents_at past v
+  pub point : documents_in asked.searched.texts ≡ documents_at past v

@@ -1,2 +1,4 @@
 pub mod AskedPoints
+pub mod Candidates
+pub mod Kept
 pub mod Walks

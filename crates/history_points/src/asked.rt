@@ -1,18 +1,21 @@
 //! The documents of the points that searches ask for, each made from those of the last one.
 
-ghost use Rattle.std.specs.Prelude.{ℕ, ◌≡◌, ◌==◌, ◌≤◌, ◌∷◌, [], if◌then◌else◌, length, reverse, take, IsTrue, IfOk, OnOk};
-ghost use Rattle.std.specs.BTreeMap.{IsOrdered};
-ghost use Rattle.documents.specs.Documents.{documents_in, documents_after, key_cmp};
+ghost use Rattle.std.specs.Prelude.{ℕ, ◌≡◌, ◌==◌, ◌≤◌, ◌<◌, ◌^◌, ◌∷◌, [], true, if◌then◌else◌, length, reverse, take, IsTrue, IfOk, OnOk, MatchOption};
+ghost use Rattle.std.specs.List.{list_any};
+ghost use Rattle.documents.specs.Documents.{documents_in, documents_after};
+ghost use Rattle.documents.specs.Ranking.{is_too_high, scan_of};
 ghost use Rattle.history_rules.specs.Nodes.{accepted_count};
 ghost use Rattle.history_rules.specs.Points.{operations_written, documents_at};
 ghost use Rattle.known_past.specs.Known.{IsKnown};
 ghost use Rattle.history_points.specs.AskedPoints.{place_at, ArePlacesOfPoints, IsAskedPoint, HoldsPoint};
+ghost use Rattle.history_points.specs.Kept.{IsSearched};
 
-use documents::{Texts, change, listed, texts_of};
+use crate::searched::Searched;
+use documents::{Answer, Query};
 use history_facts::documents_at;
 use history_rules::{Entry, Event};
 use known_past::KnownPast;
-use nrt_base::{Doc, NoMemory, Version};
+use nrt_base::{NoMemory, Version};
 use std::alloc::Global;
 use std::collections::BTreeMap;
 
@@ -74,20 +77,20 @@ fn note_point(
 #[tactic(auto, using(crate::proofs::AskedLaws::one_written, crate::proofs::AskedLaws::same_written))]
 fn write(
     alloc: Global,
-    texts: &mut Texts,
+    searched: &mut Searched,
     before: &[Entry],
     entry: &Entry,
 ) -> Result<bool, NoMemory>
-    requires ordered { IsOrdered key_cmp texts.old }
-    requires texts { documents_in texts.old
+    requires kept { IsSearched searched.old }
+    requires texts { documents_in searched.old.texts
         ≡ documents_after (operations_written (reverse before.now)) }
-    ensures ordered { OnOk result (IsOrdered key_cmp texts.new) }
-    ensures texts { IfOk result (λ taken. IsTrue taken → documents_in texts.new
+    ensures kept { OnOk result (IsSearched searched.new) }
+    ensures texts { IfOk result (λ taken. IsTrue taken → documents_in searched.new.texts
         ≡ documents_after (operations_written (entry.now ∷ reverse before.now))) }
 {
     match &entry.event {
         Event::Accepted { op, .. } => {
-            change(alloc, texts, op)?;
+            searched.change(alloc, op)?;
             Ok(true)
         }
         Event::Promoted { .. } => Ok(false),
@@ -98,21 +101,21 @@ fn write(
 /// Goes on from what the first entries wrote to what so many wrote, unless a promotion stands between.
 fn go_on(
     alloc: Global,
-    texts: &mut Texts,
+    searched: &mut Searched,
     entries: &[Entry],
     from: usize,
     to: usize,
 ) -> Result<bool, NoMemory>
     requires within { (from ≤ to) × (to ≤ length entries.now) }
-    requires ordered { IsOrdered key_cmp texts.old }
-    requires texts { documents_in texts.old
+    requires kept { IsSearched searched.old }
+    requires texts { documents_in searched.old.texts
         ≡ documents_after (operations_written (reverse (take from entries.now))) }
-    ensures ordered { OnOk result (IsOrdered key_cmp texts.new) }
-    ensures texts { IfOk result (λ reached. IsTrue reached → documents_in texts.new
+    ensures kept { OnOk result (IsSearched searched.new) }
+    ensures texts { IfOk result (λ reached. IsTrue reached → documents_in searched.new.texts
         ≡ documents_after (operations_written (reverse (take to entries.now)))) }
 {
     for i in from..to {
-        let taken = write(alloc, texts, &entries[..i], &entries[i])?;
+        let taken = write(alloc, searched, &entries[..i], &entries[i])?;
         if !taken {
             return Ok(false);
         }
@@ -126,7 +129,7 @@ pub struct AskedPoint {
     places: Places,
     /// How many of the first entries wrote the texts.
     count: usize,
-    texts: Texts,
+    searched: Searched,
 }
 
 impl AskedPoint {
@@ -137,7 +140,7 @@ impl AskedPoint {
         AskedPoint {
             places: Places::new(alloc),
             count: 0,
-            texts: Texts::new(alloc),
+            searched: Searched::new(alloc),
         }
     }
 
@@ -167,7 +170,7 @@ impl AskedPoint {
         if place < self.count {
             return Ok(false);
         }
-        let reached = go_on(alloc, &mut self.texts, entries, self.count, place)?;
+        let reached = go_on(alloc, &mut self.searched, entries, self.count, place)?;
         self.count = place;
         Ok(reached)
     }
@@ -183,28 +186,47 @@ impl AskedPoint {
             return Ok(());
         }
         let docs = documents_at(alloc, entries, v)?;
-        self.texts = texts_of(alloc, docs.as_slice())?;
+        self.searched = Searched::of(alloc, docs.as_slice())?;
         self.count = place;
         Ok(())
     }
 
-    /// The documents of the point of a version.
-    #[tactic(auto, using(crate::proofs::AskedLaws::point_few))]
-    pub fn documents(
+    /// What a search of the documents of the point of a version answers. None where one that matches ranks too high for 32 bits.
+    #[tactic(auto, using(crate::proofs::AskedLaws::answer_there, crate::proofs::AskedLaws::high_there, crate::proofs::AskedLaws::texts_few, crate::proofs::AskedLaws::answered))]
+    pub fn answer(
         &mut self,
         alloc: Global,
         entries: &[Entry],
         v: Version,
-    ) -> Result<Vec<Doc>, NoMemory>
-        requires { IsAskedPoint (reverse entries.now) self.old }
+        query: &Query,
+    ) -> Result<Option<Answer>, NoMemory>
+        requires few { accepted_count (reverse entries.now) < 2 ^ 32 }
+        requires asked { IsAskedPoint (reverse entries.now) self.old }
+        ensures answer { IfOk result (λ found. MatchOption found
+            (list_any (is_too_high query.now) (documents_at (reverse entries.now) v.0) ≡ true)
+            (λ answer. answer ≡ scan_of (documents_at (reverse entries.now) v.0) query.now)) }
         ensures asked { OnOk result (IsAskedPoint (reverse entries.now) self.new) }
-        ensures documents { IfOk result (λ docs.
-            docs.items ≡ documents_at (reverse entries.now) v.0) }
-        ensures few { IfOk result (λ docs.
-            length docs.items ≤ accepted_count (reverse entries.now)) }
     {
         self.go_to(alloc, entries, v)?;
-        let docs = listed(alloc, &self.texts)?;
-        Ok(docs)
+        let found = self.searched.answer(alloc, query)?;
+        Ok(found)
+    }
+
+    /// How many documents the point of a version has.
+    #[tactic(auto, using(crate::proofs::AskedLaws::count_there))]
+    pub fn document_count(
+        &mut self,
+        alloc: Global,
+        entries: &[Entry],
+        v: Version,
+    ) -> Result<usize, NoMemory>
+        requires { IsAskedPoint (reverse entries.now) self.old }
+        ensures count { IfOk result (λ count.
+            count ≡ length (documents_at (reverse entries.now) v.0)) }
+        ensures asked { OnOk result (IsAskedPoint (reverse entries.now) self.new) }
+    {
+        self.go_to(alloc, entries, v)?;
+        let count = self.searched.len();
+        Ok(count)
     }
 }

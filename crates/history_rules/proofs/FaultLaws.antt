@@ -41,7 +41,7 @@ switched_over : (at : At) (past : Past) (by : At) (n : NodeNo) (kind : FaultKind
 switched_over at past by n kind = both (same_at by at) (highest_switched at past)
 
 -- a ticket lives over it as before
-alive_over : (past : Past) (by : At) (n : NodeNo) (kind : FaultKind) (o : Option Ticket) → while_alive (faulted by n kind past) o ≡ while_alive past o
+pub alive_over : (past : Past) (by : At) (n : NodeNo) (kind : FaultKind) (o : Option Ticket) → while_alive (faulted by n kind past) o ≡ while_alive past o
 alive_over past by n kind None = refl
 alive_over past by n kind (Some ticket) = refl
 

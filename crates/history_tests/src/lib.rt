@@ -1,4 +1,5 @@
-//! Tests of the rules of histories, of lines of reports, of replays, and of judgements, which need nothing private.
+//! Tests of the rules of histories, of lines of reports, of replays, and of judgements, which need nothing private. They are a crate of
+//! their own, so that none that they test is proved twice.
 #![tactic(auto)]
 
 #[cfg(test)]

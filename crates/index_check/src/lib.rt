@@ -1,4 +1,4 @@
-//! A check of a directory that somebody else made, of its image, and the command that does it.
+//! A check of a directory that somebody else made, of its image, and the command that does it: `nrt check`. No node needs it.
 #![tactic(auto)]
 
 mod check;

@@ -12,6 +12,7 @@ pub mod Framing
 mod Holding
 mod Joining
 pub mod Keeping
+mod LoadCounts
 mod Making
 pub mod MergeLists
 pub mod MergedFiles

@@ -2,7 +2,8 @@
 use Rattle.std.proofs.Common.{◌≡◌, ◌<◌, ◌≤◌, ◌+◌, ℕ, ◌∷◌, Bool, true, false, List, [], ◌++◌, Option, None, refl, sym, ap, subst, ◌∙◌, arith, inl, inr, true≢false, All}
 use Rattle.file_names.specs.Names.{is_commit_name, is_pending_name}
 use Rattle.nrt_base.specs.declared.numbers.Version.{Version}
-use Rattle.std.specs.Prelude.{◌==◌}
+use Rattle.nrt_base.specs.Causes.{Rose}
+use Rattle.std.specs.Prelude.{◌==◌, ◌-◌, ◌^◌, min, length}
 use Rattle.std.specs.List.{AllByRecursion, list_any}
 use Rattle.segment_steps.specs.Given.{docs_by_input}
 use Rattle.segment_infos.specs.declared.infos.SegRecord.{SegRecord}
@@ -14,6 +15,9 @@ use Rattle.seg_reader.specs.Shown.{Shown}
 use Rattle.documents.specs.declared.operation.Op.{Op}
 use Rattle.file_deleter.specs.Holdings.{Holdings, count_of, times, AreThere, AreCounted}
 use Rattle.file_deleter.specs.Moves.{KeepsFiles, HoldsFiles, LetsGo}
+use Rattle.file_deleter.specs.Removals.{Directory, Removals}
+use Rattle.file_deleter.specs.Removals.Removals.{no_more, gone, absent, stays}
+use Rattle.file_deleter.proofs.Keeping.{keeps_then}
 use Rattle.file_deleter.proofs.NameLemmas.{times-append, among_times, not_among_times}
 use Rattle.commit_steps.proofs.Safe.{among_of, contains_of}
 use Rattle.searcher_switch.specs.declared.open.SearchPoint.{SearchPoint}
@@ -160,6 +164,36 @@ pub written_appears : {D : Type 0} (cells : D → Cells) (p : PrimaryParts D) (r
     → AppearsOnly (IsOwnFile p.infos (loose_of p)) (cells p.dir) (cells dir)
 written_appears cells p r ready dir files keeps = keeps_only (IsOwnFile p.infos (loose_of p)) r.written p.files files (cells p.dir) (cells dir) keeps
     (λ q there none. ready.step.own q (ap (λ (ns : List Name). is_among ns q) (sym ready.written) ∙ there))
+
+-- ---- a release of names, and then a sweep
+pub swept : (names : List Name) (old mid new : Holdings) (before between after : Cells) → LetsGo names old mid before between → LetsGo [] mid new between after → LetsGo names old new before after
+swept names old mid new before between after r s =
+    let none : (q : Name) → times [] q ≡ 0 = λ q. refl in
+    record {
+      counts = λ q. omega (arith, none q, r.counts q, s.counts q);
+      keeps = keeps_then [] [] old mid new before between after r.keeps s.keeps (λ q had has. omega (arith, none q, has, s.counts q));
+    }
+
+-- what is due behind removals was tried
+tried : {due failed : List Name} {before after : Directory} → Removals due failed before after → 0 < length failed → 0 < length due
+tried (no_more here) some = some
+tried (gone name names failed s u v r rest) some = omega arith
+tried (absent name names failed s u v r rest) some = omega arith
+tried (stays name names failed s u v r rest) some = omega arith
+
+pub rose_later : (a b c : ℕ) → a ≤ b → Rose (b + 1) c → Rose (a + 1) c
+rose_later a b c le rose =
+    let most : min (b + 1 + 1) (2 ^ 64 - 1) ≤ c = rose in
+    let e : min (a + 1 + 1) (2 ^ 64 - 1) ≤ c = omega (arith, le, most) in
+    e
+
+-- a removal is due behind a release and a sweep only where each of them met a fault
+pub failed_twice : {due failed : List Name} {before after : Directory} (a b c : ℕ) → (0 < length due → Rose a b) → Removals due failed before after → (0 < length failed → Rose b c) → 0 < length failed → Rose (a + 1) c
+failed_twice a b c first removals second some =
+    let low : min (a + 1) (2 ^ 64 - 1) ≤ b = first (tried removals some) in
+    let high : min (b + 1) (2 ^ 64 - 1) ≤ c = second some in
+    let e : min (a + 1 + 1) (2 ^ 64 - 1) ≤ c = omega (arith, low, high) in
+    e
 
 -- ---- the new point is put in place
 module _ {D : Type 0} (cells : D → Cells) (p : PrimaryParts D) (r : Ready) (h : HasWritten cells p r) (searchers : Searchers Shown)

@@ -1,6 +1,6 @@
 //! A publish that ends: all memory, then the writes, then the new point.
 
-ghost use Rattle.std.specs.Prelude.{◌≡◌, ◌+◌, ◌<◌, ◌≤◌, ◌^◌, List, None, false, OnOk, OnErr, IfOk, IfErr, IsErrOf, Ok, Err, ◌⊎◌};
+ghost use Rattle.std.specs.Prelude.{◌≡◌, ◌+◌, ◌<◌, ◌≤◌, ◌^◌, List, None, false, OnOk, OnErr, IfOk, IfErr, IsErrOf, Ok, Err, ◌⊎◌, length};
 ghost use Rattle.nrt_base.specs.Causes.{Rose};
 ghost use Rattle.disk_model.specs.Faults.{IsMemoryOrFailed};
 ghost use Rattle.searcher_switch.specs.Node.{KeepsCounts};
@@ -110,7 +110,8 @@ fn write<D: Dir>(alloc: Global, parts: &mut PrimaryParts<D>, ready: &Ready) -> R
     }
 }
 
-// Searches the new point, and gives back the files of the former one, those of the former infos, and what is in hand.
+// Searches the new point, and gives back the files of the former one, those of the former infos, and what is in hand. A removal
+// is due afterwards only where the directory failed twice.
 fn place<D: Dir>(parts: &mut PrimaryParts<D>, ready: Ready) -> Version
     requires { HasWritten D.cells parts.old ready }
     ensures version { result ≡ ready.infos.version }
@@ -125,6 +126,8 @@ fn place<D: Dir>(parts: &mut PrimaryParts<D>, ready: Ready) -> Version
     ensures others { KeepsOthers parts.old parts.new }
     ensures stays { KeepsHeldBytes D.cells parts.old parts.new }
     ensures appears { NoneAppears (D.cells parts.old.dir) (D.cells parts.new.dir) }
+    ensures twice { 0 < length parts.new.files.due
+        → Rose (D.faults parts.old.dir + 1) (D.faults parts.new.dir) }
     ensures later { D.faults parts.old.dir ≤ D.faults parts.new.dir }
     ensures whole { IsPrimary D.cells parts.new }
 {
@@ -139,6 +142,8 @@ fn place<D: Dir>(parts: &mut PrimaryParts<D>, ready: Ready) -> Version
     end_cut(&mut parts.waiting, &mut parts.publish);
     parts.has_cut_over = false;
     parts.files.release(ready.gone.as_slice(), &mut parts.dir);
+    // A removal that has just failed is tried once more.
+    parts.files.sweep(&mut parts.dir);
     version
 }
 
@@ -178,6 +183,8 @@ fn make_point<D: Dir>(
     ensures stays { KeepsHeldBytes D.cells parts.old parts.new }
     ensures appears { AppearsOnly (IsOwnFile parts.old.infos (loose_of parts.old))
         (D.cells parts.old.dir) (D.cells parts.new.dir) }
+    ensures twice { OnOk result (0 < length parts.new.files.due
+        → Rose (D.faults parts.old.dir + 1) (D.faults parts.new.dir)) }
     ensures later { D.faults parts.old.dir ≤ D.faults parts.new.dir }
     ensures whole { IsPrimary D.cells parts.new }
 {
@@ -197,7 +204,8 @@ fn make_point<D: Dir>(
 
 impl<D: Dir> Primary<D> {
     /// Ends a publish with the work that was made for it: writes the new files, makes a point of the new segments, and gives
-    /// back what is named no more. After an `Err` the point and the operations are as before.
+    /// back what is named no more; a removal that fails is tried once more, so one is due afterwards only where the directory
+    /// failed twice. After an `Err` the point and the operations are as before.
     pub fn publish_end(&mut self, alloc: Global, work: FlushWork) -> Result<Version, PrimaryFault>
         requires work { IsWorkOf self.old work }
         requires below { self.old.infos.version.0 + 1 < 2 ^ 63 }
@@ -215,6 +223,8 @@ impl<D: Dir> Primary<D> {
         ensures drawn { DrawsOnly self.old self.new }
         ensures appears { AppearsOnly (IsOwnFile self.old.infos (loose_of self.old))
             (D.cells self.old.dir) (D.cells self.new.dir) }
+        ensures twice { OnOk result (0 < length self.new.files.due
+            → Rose (D.faults self.old.dir + 1) (D.faults self.new.dir)) }
         ensures later { D.faults self.old.dir ≤ D.faults self.new.dir }
         ensures whole { IsPrimary D.cells self.new }
     {

@@ -1,6 +1,6 @@
 //! Copy states that are out, and merges in flight.
 
-ghost use Rattle.std.specs.Prelude.{◌≡◌, ◌+◌, ◌<◌, ◌≤◌, List, [], ◌∷◌, ◌++◌, true, IfOk, IfErr, OnOk, OnErr, IsErrOf};
+ghost use Rattle.std.specs.Prelude.{◌≡◌, ◌+◌, ◌<◌, ◌≤◌, List, [], ◌∷◌, ◌++◌, true, IfOk, IfErr, OnOk, OnErr, IsErrOf, length};
 ghost use Rattle.std.specs.List.{All};
 ghost use Rattle.nrt_base.specs.Causes.{Rose};
 ghost use Rattle.std.specs.Cmp.Lexicographic.{pointwise};
@@ -8,6 +8,7 @@ ghost use Rattle.disk_model.specs.Disk.{same, reads_of};
 ghost use Rattle.file_deleter.specs.Holdings.{AreThere, AreCounted};
 ghost use Rattle.file_deleter.specs.Moves.{MovesCounts};
 ghost use Rattle.disk_model.specs.Faults.{IsMemoryOrFailed};
+ghost use Rattle.commit_steps.specs.StepCalls.{CallsInRow};
 ghost use Rattle.searcher_switch.specs.Node.{AddsOnly};
 ghost use Rattle.copy_state.specs.Meta.{IsMetaOf};
 ghost use Rattle.copy_state.specs.States.{meta_names};
@@ -65,6 +66,7 @@ fn meta_of<D: Dir>(
     ensures meta { IfOk result (IsMetaIn (reads_of (D.cells dir.old))) }
     ensures only { IfErr result IsMemoryOrFailed }
     ensures failed { IsErrOf result DirFault.Failed → Rose (D.faults dir.old) (D.faults dir.new) }
+    ensures calls { CallsInRow 1 (D.plans dir.old) (D.plans dir.new) result }
     ensures cells { D.cells dir.new ≡ D.cells dir.old }
     ensures later { D.faults dir.old ≤ D.faults dir.new }
 {
@@ -89,6 +91,7 @@ pub fn metas_of<D: Dir>(
     ensures metas { IfOk result (λ files. All (IsMetaIn (reads_of (D.cells dir.old))) files) }
     ensures only { IfErr result IsMemoryOrFailed }
     ensures failed { IsErrOf result DirFault.Failed → Rose (D.faults dir.old) (D.faults dir.new) }
+    ensures calls { CallsInRow (length names.now) (D.plans dir.old) (D.plans dir.new) result }
     ensures cells { D.cells dir.new ≡ D.cells dir.old }
     ensures later { D.faults dir.old ≤ D.faults dir.new }
 {

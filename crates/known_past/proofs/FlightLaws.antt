@@ -5,7 +5,6 @@ use Rattle.std.proofs.lemmas.Bool.Decides.{nat_tests}
 use Rattle.nrt_base.specs.declared.numbers.At.{At}
 use Rattle.nrt_base.specs.declared.numbers.NodeNo.{NodeNo}
 use Rattle.nrt_base.specs.declared.numbers.Version.{Version}
-use Rattle.history_rules.specs.declared.entry.Entry.{Entry}
 use Rattle.history_rules.specs.declared.entry.Event.{Event}
 use Rattle.history_rules.specs.declared.entry.Event.TheVariants.{Committing, Crashed}
 use Rattle.history_rules.specs.Nodes.{Past}
@@ -14,19 +13,12 @@ use Rattle.known_past.specs.declared.nodes.LinePlace.{LinePlace}
 use Rattle.known_past.specs.Lines.{reply_place}
 use Rattle.known_past.specs.Nodes.{commit_begun}
 use Rattle.known_past.proofs.LineLaws.{reply_low}
+use Rattle.known_past.proofs.CopyLaws.{IsLow, higher}
 
 -- what a commit that began leaves in flight
 abbrev flight_by : Past → Option LinePlace → Option At
 flight_by past None = None
 flight_by past (Some f) = if nat_le (reply_place f.at past) f.place then Some f.at else None
-
-abbrev IsLow : ℕ → Option LinePlace → Type 0
-IsLow size None = Unit {0}
-IsLow size (Some f) = f.place + 1 ≤ size
-
-higher : (past : Past) (e : Entry) (o : Option LinePlace) → IsLow (length past) o → IsLow (length (e ∷ past)) o
-higher past e None low = tt
-higher past e (Some f) low = omega (arith, low)
 
 begun_low : (n : ℕ) (past : Past) → IsLow (length past) (commit_begun n past)
 begun_low n [] = tt

@@ -5,3 +5,6 @@ mod PlaceLaws
 mod VersionLaws
 mod FlightLaws
 pub mod Given
+mod CopyLaws
+mod SinceLaws
+mod ReopenLaws

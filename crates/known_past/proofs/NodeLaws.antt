@@ -1,5 +1,5 @@
 -- One more entry keeps what is known of each node.
-use Rattle.std.proofs.Common.{◌≡◌, ◌==◌, ◌<◌, ℕ, ◌≤◌, ◌+◌, [], ◌∷◌, length, Bool, true, false, ◌&&◌, ◌||◌, not, nat_lt, max, if◌then◌else◌, Option, Some, None, refl, ap, sym, subst, ◌∙◌, arith}
+use Rattle.std.proofs.Common.{◌≡◌, ◌==◌, ◌<◌, ℕ, ◌≤◌, ◌+◌, [], ◌∷◌, length, Bool, true, false, ◌&&◌, ◌||◌, not, nat_lt, nat_le, max, if◌then◌else◌, Option, Some, None, refl, ap, sym, subst, ◌∙◌, arith}
 use Rattle.std.specs.BTreeMap.{BTreeMap}
 use Rattle.std.proofs.Math.Bool.{and-false}
 use Rattle.std.proofs.lemmas.Bool.{eqb-true}
@@ -13,35 +13,43 @@ use Rattle.history_rules.specs.declared.cause.FaultKind.{FaultKind}
 use Rattle.history_rules.specs.declared.cause.FaultKind.TheVariants.{Link, Damage, Disk, Stop}
 use Rattle.history_rules.specs.Nodes.{Past, is_at, primary_of, is_running, crashes, version_of}
 use Rattle.history_rules.specs.Lines.{start_entry, is_reply, without_at, copy_in_flight}
-use Rattle.history_rules.specs.Commits.{has_committed, is_disk_fault, starts_commit, is_stuck, is_refused_by_disk, passes, is_passed}
+use Rattle.history_rules.specs.Commits.{base_version, has_committed, is_disk_fault, starts_commit, is_stuck, is_refused_by_disk, passes, is_passed}
 use Rattle.history_rules.specs.Faults.{same_kind, kind_of, is_planned}
 use Rattle.history_tables.specs.NodeRows.{crashed_at}
 use Rattle.history_tables.specs.WorkRows.{IsCommitter}
 use Rattle.known_past.specs.declared.nodes.KnownNode.{KnownNode}
-use Rattle.known_past.specs.Nodes.{highest_copied, commit_begun, first_node, node_known, touched, NodeIsKnown, AreNodesKnown}
+use Rattle.known_past.specs.Nodes.{highest_copied, last_copy, last_changed, commit_begun, first_node, node_known, touched, NodeIsKnown, AreNodesKnown}
 
 pub first_is_known : (n : ℕ) → NodeIsKnown [] n first_node
 first_is_known n = record {
-  life = record { running = refl; crashes = refl; crashed = refl; version = refl; copied = refl; low = omega arith };
-  commits = record { committed = refl; stuck = refl; begun = refl };
+  life = record { running = refl; crashes = refl; crashed = refl; changed = refl; version = refl; copied = refl; copying = refl; low = omega arith };
+  commits = record { committed = refl; stuck = refl; base = refl; begun = refl };
   plans = record { link = refl; damage = refl; disk = refl; stop = refl };
 }
 
 module _ (past now : Past) (n : ℕ) (node : KnownNode) (h : NodeIsKnown past n node) where
   -- what the entries show of a node is as before
-  still : is_running n now ≡ is_running n past → crashes n now ≡ crashes n past → crashed_at n now ≡ crashed_at n past → version_of n now ≡ version_of n past → highest_copied n now ≡ highest_copied n past
-      → has_committed n now ≡ has_committed n past → is_stuck n now ≡ is_stuck n past → commit_begun n now ≡ commit_begun n past → ((kind : FaultKind) → is_planned n kind now ≡ is_planned n kind past)
-      → length past ≤ length now → NodeIsKnown now n node
-  still running crashed at version copied committed stuck begun planned longer = record {
+  still : is_running n now ≡ is_running n past → crashes n now ≡ crashes n past → crashed_at n now ≡ crashed_at n past → last_changed n now ≡ last_changed n past
+      → version_of n now ≡ version_of n past → highest_copied n now ≡ highest_copied n past → last_copy n now ≡ last_copy n past
+      → has_committed n now ≡ has_committed n past → is_stuck n now ≡ is_stuck n past → base_version n now ≡ base_version n past → commit_begun n now ≡ commit_begun n past
+      → ((kind : FaultKind) → is_planned n kind now ≡ is_planned n kind past) → length past ≤ length now → NodeIsKnown now n node
+  still running crashed at changed version copied copying committed stuck base begun planned longer = record {
     life = record {
       running = h.life.running ∙ sym running;
       crashes = h.life.crashes ∙ sym crashed;
       crashed = h.life.crashed ∙ sym at;
+      changed = h.life.changed ∙ sym changed;
       version = h.life.version ∙ sym version;
       copied = h.life.copied ∙ sym copied;
+      copying = h.life.copying ∙ sym copying;
       low = let low = h.life.low in omega (arith, low, longer);
     };
-    commits = record { committed = h.commits.committed ∙ sym committed; stuck = h.commits.stuck ∙ sym stuck; begun = h.commits.begun ∙ sym begun };
+    commits = record {
+      committed = h.commits.committed ∙ sym committed;
+      stuck = h.commits.stuck ∙ sym stuck;
+      base = h.commits.base ∙ sym base;
+      begun = h.commits.begun ∙ sym begun;
+    };
     plans = record {
       link = h.plans.link ∙ sym (planned Link);
       damage = h.plans.damage ∙ sym (planned Damage);
@@ -55,40 +63,53 @@ untouched : (past : Past) (at : At) (e : Event) (n : ℕ) (node : KnownNode) (pr
     → is_at (touched e primary committer) n ≡ false → NodeIsKnown past n node → NodeIsKnown (record { at = at; event = e } ∷ past) n node
 untouched past at (Published g v) n node primary committer source refuses out h =
     let other : is_at (primary_of past) n ≡ false = ap (λ (p : Option NodeNo). is_at p n) (sym source) ∙ out in
-    still past (record { at = at; event = Published g v } ∷ past) n node h refl refl refl (ap (λ (b : Bool). if b then v.0 else version_of n past) other) refl refl refl refl (λ kind. refl) (omega arith)
+    still past (record { at = at; event = Published g v } ∷ past) n node h refl refl refl refl
+    (ap (λ (b : Bool). if b then v.0 else version_of n past) other) refl refl refl refl refl refl (λ kind. refl) (omega arith)
 untouched past at (Refused cause) n node primary committer source refuses out h =
     let other : starts_commit n (start_entry at past) ≡ false = refuses n ∙ out in
-    still past (record { at = at; event = Refused cause } ∷ past) n node h refl refl refl refl refl refl
-    (ap (λ (b : Bool). (is_disk_fault cause && b) || is_stuck n past) other ∙ ap (λ (b : Bool). b || is_stuck n past) (and-false (is_disk_fault cause))) refl (λ kind. refl) (omega arith)
+    still past (record { at = at; event = Refused cause } ∷ past) n node h refl refl refl refl refl refl refl refl
+    (ap (λ (b : Bool). (is_disk_fault cause && b) || is_stuck n past) other ∙ ap (λ (b : Bool). b || is_stuck n past) (and-false (is_disk_fault cause)))
+    refl refl (λ kind. refl) (omega arith)
 untouched past at (Switched m v) n node primary committer source refuses out h =
-    still past (record { at = at; event = Switched m v } ∷ past) n node h refl refl refl (ap (λ (b : Bool). if b then v.0 else version_of n past) out) refl refl refl refl (λ kind. refl) (omega arith)
+    still past (record { at = at; event = Switched m v } ∷ past) n node h refl refl refl refl
+    (ap (λ (b : Bool). if b then v.0 else version_of n past) out) refl refl refl refl refl refl (λ kind. refl) (omega arith)
 untouched past at (Crashed m) n node primary committer source refuses out h =
     still past (record { at = at; event = Crashed m } ∷ past) n node h (ap (λ (b : Bool). if b then false else is_running n past) out)
-    (ap (λ (b : Bool). if b then crashes n past + 1 else crashes n past) out) (ap (λ (b : Bool). if b then length past + 1 else crashed_at n past) out) refl refl refl refl (ap (λ (b : Bool). if b then None else commit_begun n past) out)
-    (λ kind. ap (λ (b : Bool). if b then false else is_planned n kind past) out) (omega arith)
+    (ap (λ (b : Bool). if b then crashes n past + 1 else crashes n past) out)
+    (ap (λ (b : Bool). if b then length past + 1 else crashed_at n past) out)
+    (ap (λ (b : Bool). if b then length past + 1 else last_changed n past) out) refl refl refl refl refl refl
+    (ap (λ (b : Bool). if b then None else commit_begun n past) out) (λ kind. ap (λ (b : Bool). if b then false else is_planned n kind past) out)
+    (omega arith)
 untouched past at (Reopened m v) n node primary committer source refuses out h =
     still past (record { at = at; event = Reopened m v } ∷ past) n node h (ap (λ (b : Bool). if b then true else is_running n past) out) refl refl
-    (ap (λ (b : Bool). if b then v.0 else version_of n past) out) refl (ap (λ (b : Bool). if b then has_committed n past || nat_lt 1 v.0 else has_committed n past) out)
-    (ap (λ (b : Bool). if b then false else is_stuck n past) out) refl (λ kind. refl) (omega arith)
+    (ap (λ (b : Bool). if b then length past + 1 else last_changed n past) out) (ap (λ (b : Bool). if b then v.0 else version_of n past) out) refl
+    refl (ap (λ (b : Bool). if b then has_committed n past || nat_lt 1 v.0 else has_committed n past) out)
+    (ap (λ (b : Bool). if b then false else is_stuck n past) out) (ap (λ (b : Bool). if b then v.0 else base_version n past) out) refl (λ kind. refl)
+    (omega arith)
 untouched past at (Promoted m g f v) n node primary committer source refuses out h =
-    still past (record { at = at; event = Promoted m g f v } ∷ past) n node h refl refl refl (ap (λ (b : Bool). if b then v.0 else version_of n past) out) refl refl refl refl (λ kind. refl) (omega arith)
+    still past (record { at = at; event = Promoted m g f v } ∷ past) n node h refl refl refl refl
+    (ap (λ (b : Bool). if b then v.0 else version_of n past) out) refl refl refl refl refl refl (λ kind. refl) (omega arith)
 untouched past at (Committed m v) n node primary committer source refuses out h =
-    still past (record { at = at; event = Committed m v } ∷ past) n node h refl refl refl refl refl (ap (λ (b : Bool). if b then true else has_committed n past) out)
-    (ap (λ (b : Bool). if b then false else is_stuck n past) out) refl (λ kind. refl) (omega arith)
+    still past (record { at = at; event = Committed m v } ∷ past) n node h refl refl refl refl refl refl refl
+    (ap (λ (b : Bool). if b then true else has_committed n past) out) (ap (λ (b : Bool). if b then false else is_stuck n past) out)
+    (ap (λ (b : Bool). if b then v.0 else base_version n past) out) refl (λ kind. refl) (omega arith)
 untouched past at (Planned m plan) n node primary committer source refuses out h =
-    still past (record { at = at; event = Planned m plan } ∷ past) n node h refl refl refl refl refl refl refl refl
+    still past (record { at = at; event = Planned m plan } ∷ past) n node h refl refl refl refl refl refl refl refl refl refl refl
     (λ kind. ap (λ (b : Bool). if b && same_kind (kind_of plan) kind then true else is_planned n kind past) out) (omega arith)
 untouched past at (Fault m met) n node primary committer source refuses out h =
-    still past (record { at = at; event = Fault m met } ∷ past) n node h refl refl refl refl refl refl refl refl
-    (λ kind. ap (λ (b : Bool). if b && same_kind met kind then same_kind Stop kind && is_planned n kind past else is_planned n kind past) out) (omega arith)
+    still past (record { at = at; event = Fault m met } ∷ past) n node h refl refl refl refl refl refl refl refl refl refl refl
+    (λ kind. ap (λ (b : Bool). if b && same_kind met kind then same_kind Stop kind && is_planned n kind past else is_planned n kind past) out)
+    (omega arith)
 untouched past at (Copying m v) n node primary committer source refuses out h =
-    still past (record { at = at; event = Copying m v } ∷ past) n node h refl refl refl refl (ap (λ (b : Bool). if b then max (highest_copied n past) v.0 else highest_copied n past) out)
+    still past (record { at = at; event = Copying m v } ∷ past) n node h refl refl refl refl refl
+    (ap (λ (b : Bool). if b then max (highest_copied n past) v.0 else highest_copied n past) out)
+    (ap (λ (b : Bool). if b && nat_le (highest_copied n past) v.0 then Some (record { at = at; place = length past }) else last_copy n past) out) refl
     refl refl refl (λ kind. refl) (omega arith)
 untouched past at (Committing m v) n node primary committer source refuses out h =
-    still past (record { at = at; event = Committing m v } ∷ past) n node h refl refl refl refl refl refl refl
+    still past (record { at = at; event = Committing m v } ∷ past) n node h refl refl refl refl refl refl refl refl refl refl
     (ap (λ (b : Bool). if b then Some (record { at = at; place = length past }) else commit_begun n past) out) (λ kind. refl) (omega arith)
 untouched past at e n node primary committer source refuses out h =
-    still past (record { at = at; event = e } ∷ past) n node h refl refl refl refl refl refl refl refl (λ kind. refl) (omega arith)
+    still past (record { at = at; event = e } ∷ past) n node h refl refl refl refl refl refl refl refl refl refl refl (λ kind. refl) (omega arith)
 
 -- an entry that touches no node
 pub none_touched : (past : Past) (e : Entry) (nodes : BTreeMap ℕ KnownNode) (primary committer : Option NodeNo) → AreNodesKnown past nodes → primary ≡ primary_of past

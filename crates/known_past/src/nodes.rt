@@ -1,17 +1,38 @@
 //! What is known of each node: whether it runs, what it searches, and what its commits and planned faults are.
 
-ghost use Rattle.std.specs.Prelude.{ℕ, ◌≡◌, ◌==◌, ◌≤◌, ◌<◌, ◌+◌, ◌^◌, ◌∷◌, if◌then◌else◌, length, reverse, OnOk};
+ghost use Rattle.std.specs.Prelude.{ℕ, ◌≡◌, ◌==◌, ◌&&◌, ◌≤◌, ◌<◌, ◌+◌, ◌^◌, ◌∷◌, if◌then◌else◌, length, nat_le, reverse, OnOk, Some, None};
 ghost use Rattle.history_rules.specs.Nodes.{primary_of, is_running, crashes, version_of};
-ghost use Rattle.history_rules.specs.Commits.{has_committed, is_stuck};
+ghost use Rattle.history_rules.specs.Commits.{base_version, has_committed, is_stuck};
 ghost use Rattle.history_tables.specs.NodeRows.{crashed_at};
 ghost use Rattle.history_tables.specs.WorkRows.{IsCommitter};
-ghost use Rattle.known_past.specs.Nodes.{highest_copied, commit_begun, first_node, node_known, touched as touched_lem, LifeIsKnown, CommitsAreKnown, NodeIsKnown, AreNodesKnown};
+ghost use Rattle.known_past.specs.Nodes.{highest_copied, last_copy, last_changed, commit_begun, first_node, node_known, touched as touched_lem, LifeIsKnown, CommitsAreKnown, NodeIsKnown, AreNodesKnown};
 
 use history_facts::{is_at, is_disk_fault};
 use history_rules::{Entry, Event};
 use history_tables::Plans;
-use nrt_base::{At, NoMemory, NodeNo};
+use nrt_base::{At, NoMemory, NodeNo, Version};
 use std::collections::BTreeMap;
+
+/// A line, and how many entries stood before one of it.
+#[derive(Clone, Copy, Debug, PartialEq, Eq)]
+pub struct LinePlace {
+    pub at: At,
+    pub place: usize,
+}
+
+impl LinePlace {
+    /// The line, where none of these counts of entries is above its place.
+    pub fn unless_since(self, replied: usize, crashed: usize, lost: usize) -> Option<At>
+        ensures { result ≡ (if nat_le replied self.place
+            && (nat_le crashed self.place && nat_le lost self.place) then Some self.at else None) }
+    {
+        if replied <= self.place && crashed <= self.place && lost <= self.place {
+            Some(self.at)
+        } else {
+            None
+        }
+    }
+}
 
 /// What is known of a node's life.
 #[derive(Clone, Copy, Debug, PartialEq, Eq)]
@@ -20,17 +41,14 @@ pub struct Life {
     pub crashes: usize,
     /// How many entries there were after its last crash.
     pub crashed: usize,
+    /// How many there were after it last crashed or reopened.
+    pub changed: usize,
     /// The version that it searches.
     pub version: u64,
     /// The greatest version that a copy to it noted, or 0.
     pub copied: u64,
-}
-
-/// A line, and how many entries stood before one of it.
-#[derive(Clone, Copy, Debug, PartialEq, Eq)]
-pub struct LinePlace {
-    pub at: At,
-    pub place: usize,
+    /// The start of the last copy of that version.
+    pub copying: Option<LinePlace>,
 }
 
 /// What is known of a node's commits.
@@ -40,6 +58,8 @@ pub struct Commits {
     pub committed: bool,
     /// Whether a disk fault refused one, and neither was one acknowledged since nor did the node reopen.
     pub stuck: bool,
+    /// The version that the node has for certain: that of the last one acknowledged, or of its last reopening.
+    pub base: u64,
     /// The start of the last one, unless the node has crashed since.
     pub begun: Option<LinePlace>,
 }
@@ -56,6 +76,18 @@ pub struct KnownNode {
 pub type KnownNodes = BTreeMap<u8, KnownNode>;
 
 impl Life {
+    /// The start of the last copy of the greatest version, after one more copy that this line starts.
+    fn copying_after(self, at: At, v: Version, size: usize) -> Option<LinePlace>
+        ensures { result ≡
+            (if nat_le self.copied v.0 then Some (record { at = at; place = size }) else self.copying) }
+    {
+        if self.copied <= v.0 {
+            Some(LinePlace { at, place: size })
+        } else {
+            self.copying
+        }
+    }
+
     /// After one more entry than these, under this primary.
     fn after(self, n: u8, primary: Option<NodeNo>, before: &[Entry], entry: &Entry) -> Self
         requires known { LifeIsKnown (reverse before.now) n self }
@@ -64,8 +96,10 @@ impl Life {
         ensures running { result.running ≡ is_running n (entry.now ∷ reverse before.now) }
         ensures crashes { result.crashes ≡ crashes n (entry.now ∷ reverse before.now) }
         ensures crashed { result.crashed ≡ crashed_at n (entry.now ∷ reverse before.now) }
+        ensures changed { result.changed ≡ last_changed n (entry.now ∷ reverse before.now) }
         ensures version { result.version ≡ version_of n (entry.now ∷ reverse before.now) }
         ensures copied { result.copied ≡ highest_copied n (entry.now ∷ reverse before.now) }
+        ensures copying { result.copying ≡ last_copy n (entry.now ∷ reverse before.now) }
         ensures low { result.crashes ≤ length before.now + 1 }
     {
         match &entry.event {
@@ -73,11 +107,12 @@ impl Life {
                 running: false,
                 crashes: self.crashes + 1,
                 crashed: before.len() + 1,
-                version: self.version,
-                copied: self.copied,
+                changed: before.len() + 1,
+                ..self
             },
             Event::Reopened { n: m, v } if m.0 == n => Life {
                 running: true,
+                changed: before.len() + 1,
                 version: v.0,
                 ..self
             },
@@ -91,6 +126,7 @@ impl Life {
             },
             Event::Copying { n: m, v } if m.0 == n => Life {
                 copied: self.copied.max(v.0),
+                copying: self.copying_after(entry.at, *v, before.len()),
                 ..self
             },
             _ => self,
@@ -106,6 +142,7 @@ impl Commits {
             committer }
         ensures committed { result.committed ≡ has_committed n (entry.now ∷ reverse before.now) }
         ensures stuck { result.stuck ≡ is_stuck n (entry.now ∷ reverse before.now) }
+        ensures base { result.base ≡ base_version n (entry.now ∷ reverse before.now) }
         ensures begun { result.begun ≡ commit_begun n (entry.now ∷ reverse before.now) }
     {
         match &entry.event {
@@ -120,14 +157,16 @@ impl Commits {
                 begun: None,
                 ..self
             },
-            Event::Committed { n: m, .. } if m.0 == n => Commits {
+            Event::Committed { n: m, v } if m.0 == n => Commits {
                 committed: true,
                 stuck: false,
+                base: v.0,
                 begun: self.begun,
             },
             Event::Reopened { n: m, v } if m.0 == n => Commits {
                 committed: self.committed || 1 < v.0,
                 stuck: false,
+                base: v.0,
                 begun: self.begun,
             },
             Event::Refused { cause } => {
@@ -136,6 +175,7 @@ impl Commits {
                 Commits {
                     committed: self.committed,
                     stuck: (disk && mine) || self.stuck,
+                    base: self.base,
                     begun: self.begun,
                 }
             }
@@ -154,12 +194,15 @@ impl KnownNode {
                 running: true,
                 crashes: 0,
                 crashed: 0,
+                changed: 0,
                 version: 1,
                 copied: 0,
+                copying: None,
             },
             commits: Commits {
                 committed: false,
                 stuck: false,
+                base: 1,
                 begun: None,
             },
             plans: Plans {

@@ -1,12 +1,12 @@
 //! What is known of the entries before a place, in tables that one more entry steps.
 
-ghost use Rattle.std.specs.Prelude.{ℕ, ◌≡◌, ◌≤◌, ◌<◌, ◌^◌, ◌+◌, ◌*◌, ◌∷◌, [], ◌↔◌, reverse, length, OnOk, IfOk, IsTrue, IsSomeAnd, MatchOption, None, Some};
-ghost use Rattle.std.specs.List.{slice_get};
+ghost use Rattle.std.specs.Prelude.{ℕ, ◌≡◌, ◌==◌, ◌≤◌, ◌<◌, ◌^◌, ◌+◌, ◌*◌, ◌∷◌, [], ◌↔◌, reverse, length, OnOk, IfOk, IsTrue, IsSomeAnd, MatchOption, None, Some};
+ghost use Rattle.std.specs.List.{slice_get, list_any};
 ghost use Rattle.std.specs.Option.{option_copied};
 ghost use Rattle.history_rules.specs.declared.entry.Entry.{Entry};
 ghost use Rattle.history_rules.specs.Nodes.{Past, IsReplica, is_at, primary_of, newest_version, is_running, version_of, is_made_in_generation, is_point, accepted_count};
 ghost use Rattle.history_rules.specs.Lines.{is_answered, start_entry, before_start, last_of_line, publish_in_flight, commit_in_flight, copy_in_flight, highest_switched, NodeSurvives, SourceSurvives};
-ghost use Rattle.history_rules.specs.Commits.{starts_commit, has_committed, is_stuck, is_passed};
+ghost use Rattle.history_rules.specs.Commits.{starts_commit, has_committed, is_stuck, reopenable_versions, is_passed};
 ghost use Rattle.history_rules.specs.Points.{accepted_at_start};
 ghost use Rattle.history_rules.specs.Faults.{has_met_fault, has_file_fault, is_planned};
 ghost use Rattle.history_rules.specs.Tasks.{merge_count, drained_count};
@@ -16,14 +16,15 @@ ghost use Rattle.history_tables.specs.Numbering.{NumbersTell, IsFound};
 ghost use Rattle.history_tables.specs.WorkRows.{IsCommitter};
 ghost use Rattle.history_tables.specs.Openings.{IsLife, ticket_of};
 ghost use Rattle.known_past.specs.Lines.{reply_place, LineIsKnown};
-ghost use Rattle.known_past.specs.Nodes.{NodeIsKnown};
+ghost use Rattle.known_past.specs.Nodes.{highest_copied, NodeIsKnown};
 ghost use Rattle.known_past.specs.Known.{TicketsAreKnown, IsKnown};
 
 use crate::lines::{KnownLine, KnownLines, line_in, set_line};
 use crate::nodes::{KnownNode, KnownNodes, node_in, note_node};
 use crate::versions::KnownVersions;
 use history_facts::{
-    Drawn, Generation, copy_in_flight, has_file_fault, is_at, is_passed, note_drawn,
+    Drawn, Generation, copy_in_flight, has_file_fault, is_at, is_passed, is_reopenable, is_replica,
+    note_drawn,
 };
 use history_rules::{Entry, Event, FaultKind};
 use history_tables::{Numbers, Opening, Tickets};
@@ -496,16 +497,76 @@ impl KnownPast {
         }
     }
 
-    /// The line whose copy of a version to a node is in flight. Where that was never copied there, none is looked for.
+    /// The line whose copy of the greatest version that was copied to a node is in flight.
+    fn last_copy(&self, n: NodeNo, entries: &[Entry]) -> Option<At>
+        requires { IsKnown (reverse entries.now) self.now }
+        ensures { (v : ℕ) → highest_copied n.0 (reverse entries.now) ≡ v
+            → result ≡ copy_in_flight n.0 v (reverse entries.now) }
+    {
+        let life = self.node(n, entries).life;
+        match life.copying {
+            Some(copy) => {
+                let replied = self.replied(copy.at, entries);
+                copy.unless_since(replied, life.crashed, self.numbers.primary_crashed)
+            }
+            None => None,
+        }
+    }
+
+    /// The line whose copy of a version to a node is in flight. Where a greater one was copied there, it is looked for.
     #[tactic(auto, using(crate::proofs::NodeLaws::not_copied))]
     pub fn copy_in_flight(&self, n: NodeNo, v: Version, entries: &[Entry]) -> Option<At>
         requires { IsKnown (reverse entries.now) self.now }
         ensures { result ≡ copy_in_flight n.0 v.0 (reverse entries.now) }
     {
-        if self.node(n, entries).life.copied < v.0 {
-            None
+        let copied = self.node(n, entries).life.copied;
+        if copied < v.0 {
+            return None;
+        }
+        if copied == v.0 {
+            return self.last_copy(n, entries);
+        }
+        copy_in_flight(n, v, entries)
+    }
+
+    /// Whether a node may reopen at a version. At its base version it always may.
+    pub fn is_reopenable(&self, n: NodeNo, v: Version, entries: &[Entry]) -> bool
+        requires { IsKnown (reverse entries.now) self.now }
+        ensures { result ≡ list_any (λ w. w == v.0)
+            (reopenable_versions n.0 (reverse entries.now)) }
+    {
+        if self.node(n, entries).commits.base == v.0 {
+            return true;
+        }
+        is_reopenable(n, v, entries)
+    }
+
+    /// Whether neither a node nor the primary changed since the start entry of a line.
+    fn is_as_then(&self, n: NodeNo, at: At, entries: &[Entry]) -> bool
+        requires { IsKnown (reverse entries.now) self.now }
+        ensures { IsTrue result → (IsReplica (reverse entries.now) n.0
+            ↔ IsReplica (before_start at (reverse entries.now)) n.0) }
+    {
+        let start = self.start_count(at, entries);
+        let changed = self.node(n, entries).life.changed;
+        if start < changed {
+            return false;
+        }
+        if start < self.numbers.primary_crashed {
+            return false;
+        }
+        self.versions.promoted <= start
+    }
+
+    /// Whether a node was a replica at the start entry of a line.
+    pub fn was_replica(&self, n: NodeNo, at: At, entries: &[Entry]) -> bool
+        requires { IsKnown (reverse entries.now) self.now }
+        ensures { IsTrue result ↔ IsReplica (before_start at (reverse entries.now)) n.0 }
+    {
+        if self.is_as_then(n, at, entries) {
+            self.is_replica(n, entries)
         } else {
-            copy_in_flight(n, v, entries)
+            is_replica(n, self.before_start(at, entries))
         }
     }
 

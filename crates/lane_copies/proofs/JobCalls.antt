@@ -16,7 +16,7 @@ use Rattle.history_rules.specs.declared.cause.Cause.TheVariants.{Lost, DiskFault
 use Rattle.history_rules.specs.declared.entry.Entry.{Entry}
 use Rattle.history_rules.specs.declared.entry.Event.{Event}
 use Rattle.history_rules.specs.declared.entry.Event.TheVariants.{Publishing, Copying, Switched, Settling, Opened, Asking, Committing, Fault, Refused}
-use Rattle.history_rules.specs.Nodes.{Past, version_of, crashes, primary_crashes}
+use Rattle.history_rules.specs.Nodes.{Past, version_of, newest_version, crashes, primary_crashes}
 use Rattle.history_rules.specs.Lines.{same_at, is_start, is_reply, is_answered, start_entry, before_start, entries_of_line}
 use Rattle.history_rules.specs.Points.{operations_of_generation}
 use Rattle.history_rules.specs.Started.{is_lost}
@@ -28,7 +28,7 @@ use Rattle.history_tables.specs.declared.lines.BegunLine.{BegunLine}
 use Rattle.history_tables.specs.Begins.{begin, begun_by, open_line}
 use Rattle.history_tables.specs.JobRows.{row_if_some}
 use Rattle.history_book.specs.Log.{Log, printed, shown}
-use Rattle.history_book.specs.Jobs.{job_of}
+use Rattle.history_book.specs.Jobs.{job_at, job_of}
 use Rattle.script_serving.specs.declared.script.LineCommand.TheVariants.{Settle}
 use Rattle.cluster_nodes.specs.declared.tasks.CopyTask.{CopyTask}
 use Rattle.cluster_nodes.specs.declared.tasks.FileTask.{FileTask}
@@ -44,10 +44,12 @@ use Rattle.cluster_state.specs.declared.standing.Standing.{Standing}
 use Rattle.cluster_state.specs.declared.standing.Standing.TheVariants.{Runs, Passed, Ends}
 use Rattle.cluster_state.specs.declared.turn.Turn.{Turn}
 use Rattle.cluster_state.specs.declared.turn.Turn.TheVariants.{Work, Done, Busy}
-use Rattle.cluster_state.specs.CopyCalls.{is_node_lost, overtaken, standing_of, log_after, stopped_log, StopsTurn, JobGoesOn, JobTakes, AreFrom, CopyStarts, SettleStarts, SettleGoesOn, SettlesOn}
+use Rattle.cluster_state.specs.CopyCalls.{is_node_lost, overtaken, standing_of, log_after, stopped_log, StopsTurn, JobGoesOn, JobTakes, AreFrom, IsBeingCopied, CopyStarts, CopyStartsWhen, SettleStarts, SettleGoesOn, SettlesOn}
 use Rattle.lane_sections.specs.Given.{SiteRun, DoesAtSite, IsReplied, IsRepliedAtDone, IsBegunAtWork}
+use Rattle.lane_sections.specs.Flights.{HasFlight, WaitsWhere}
+use Rattle.lane_sections.proofs.Sections.{some_there, job_waited}
 use Rattle.lane_sections.specs.Turns.{IsUnbegunIn, NeverWaits, TurnShows}
-use Rattle.lane_copies.specs.Jobs.{IsJobStart, IsCopyStart, IsCopyingBy, HasFileOut, IsCopyReplied, BeginsCopy, BeginsNextJob, HasBegunToSettle, IsSettlingOn, LeavesJob, LeavesJobAt}
+use Rattle.lane_copies.specs.Jobs.{IsJobStart, IsCopyStart, IsCopyingBy, HasFileOut, IsCopyReplied, IsCopiedSomewhere, BeginsCopy, BeginsNextJob, HasBegunToSettle, IsSettlingOn, LeavesJob, LeavesJobAt}
 
 -- ---- the job has no end
 
@@ -433,7 +435,21 @@ begins_shows at old new left task goes =
 pub waits_shows : (at : At) (old new : Run) (left next : SettleTask) → IsSettling old.nodes (printed old.log) at left → SettleGoesOn at old new next Busy → IsSettlingOn new.nodes at left new.log
 waits_shows at old new left next s goes = subst (λ (r : Run). IsSettling r.nodes (printed r.log) at left) (sym goes.0) s
 
+-- a line that copies is what others wait for
+pub copied_waited : (n : ℕ) (log : Log) → IsBeingCopied log n → HasFlight log
+copied_waited n log copied = job_waited n log (some_there (job_at n log) (λ (job : Job). job.version.0 ≡ newest_version (printed log)) copied)
+
+-- where it waits a job for the newest version runs at a node
+pub settle_held : (at : At) (old new : Run) (left : SettleTask) → SettleGoesOn at old new left Busy → IsCopiedSomewhere new.log
+settle_held at old new left goes = subst (λ (r : Run). IsCopiedSomewhere r.log) (sym goes.0) (goes.1.0, goes.1.2)
+
 -- ---- starts
+
+-- where it waits a job for the newest version runs there
+pub copy_waits : (at : At) (n : NodeNo) (old new : Run) (turn : Turn CopyTask) → CopyStarts at n old new turn → CopyStartsWhen at n old.log turn → WaitsWhere (λ log. IsBeingCopied log n.0) new.log turn
+copy_waits at n old new (Work task) starts when = tt
+copy_waits at n old new Done starts when = tt
+copy_waits at n old new Busy starts when = subst (λ (r : Run). IsBeingCopied r.log n.0) (sym starts.0) when.1
 
 pub copy_shows : (at : At) (n : NodeNo) (old new : Run) (turn : Turn CopyTask) → entries_of_line at (printed old.log) ≡ [] → CopyStarts at n old new turn → IsRepliedAtDone at new turn
     → IsBegunAtWork at (λ task. Copying n (newest_of (printed old.log))) new turn → TurnShows (BeginsCopy at n) (IsUnbegunIn at) at new turn

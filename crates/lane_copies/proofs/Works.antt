@@ -1,5 +1,5 @@
 -- What a section of a call of a task did, for the lane or worker that took it.
-use Rattle.std.proofs.Common.{◌≡◌, ◌⊎◌, ◌∷◌, ℕ, Bool, [], Option, Some, None, ap, ◌∙◌, sym, subst, inl, inr, reverse}
+use Rattle.std.proofs.Common.{◌≡◌, ◌⊎◌, ◌∷◌, ℕ, Bool, [], Option, Some, None, refl, ap, ◌∙◌, sym, subst, inl, inr, reverse}
 use Rattle.std.specs.Prelude.{Result, Ok, Err, OnOk, OnErr, IfOk}
 use Rattle.std.proofs.lemmas.Result.{on_ok_weaker}
 use Rattle.nrt_base.specs.declared.numbers.At.{At}
@@ -15,17 +15,19 @@ use Rattle.hist_lock.specs.declared.lock.HistLock.{HistLock}
 use Rattle.hist_lock.specs.declared.lock.LaneSeat.{LaneSeat}
 use Rattle.hist_lock.specs.History.{Extends}
 use Rattle.hist_lock.specs.Seats.{history_seen}
-use Rattle.lane_threads.specs.Owes.{AddsEntries, AddsByTask, GoesByTask}
+use Rattle.lane_threads.specs.Owes.{AddsEntries, AddsByTask, GoesByLine, GoesByTask}
+use Rattle.lane_threads.proofs.IdleLemmas.{apart_none}
 use Rattle.lane_threads.specs.Seats.{log_seen, IsLaneSeat}
 use Rattle.merge_tasks.specs.declared.tasks.Task.{Task}
 use Rattle.merge_tasks.specs.TaskLog.{carried_out}
 use Rattle.merge_tasks.specs.Board.{IsToldKind}
 use Rattle.cluster_nodes.specs.declared.tasks.FileTask.{FileTask}
-use Rattle.cluster_state.specs.Run.{IsEnded}
+use Rattle.cluster_state.specs.Run.{Run, IsEnded}
 use Rattle.cluster_merges.specs.MergePaths.{TakesTask}
 use Rattle.cluster_state.specs.declared.turn.Turn.{Turn}
 use Rattle.cluster_state.specs.declared.turn.Turn.TheVariants.{Work, Done, Busy}
-use Rattle.cluster_merges.specs.TaskCalls.{PrecopyTurns}
+use Rattle.cluster_merges.specs.TaskCalls.{PrecopyTurns, CutTurns}
+use Rattle.lane_sections.specs.Flights.{HasPublish, HasJobAt, WaitsWhere}
 use Rattle.lane_sections.specs.Given.{SiteRun, DoesAtSite, DoesTaskAtSite, is_logged}
 use Rattle.lane_sections.proofs.Sections.{EntersSite, IsLeft, call_extends}
 use Rattle.lane_copies.specs.Taken.{IsTakerAt, GrowsSilently, WorksOn, TakesOn, HandsOn}
@@ -47,12 +49,23 @@ line_adds logged at by is (Kept i ∷ more) old h = (taker_named at by is (name_
 
 line_does : (at : At) (by : Option At) → IsTakerAt at by → (old new : SiteRun) → DoesTaskAtSite by old new → DoesAtSite Settle at old new
 line_does at by is old new does =
-    record {
-      running = does.running;
-      nodes = does.nodes;
-      logged = does.logged;
-      goes = record { more = does.goes.more; log = does.goes.log; adds = line_adds (is_logged old) at by is does.goes.more old.run.log does.goes.adds };
-    }
+    let goes : GoesByLine (is_logged old) Settle at old.run.log new.run.log =
+    record { more = does.goes.more; log = does.goes.log; adds = line_adds (is_logged old) at by is does.goes.more old.run.log does.goes.adds } in
+    record { running = does.running; nodes = does.nodes; logged = does.logged; goes = goes; none = apart_none Settle at old.run.log new.run.log refl goes }
+
+-- ---- what a task waits for
+
+-- a copy that waits finds the job of a point at its node
+pub precopy_waits : (line : LineNo) (seg : SegNo) (by : Option At) (n : NodeNo) (job : ℕ) (old new : Run) (turn : Turn FileTask) → PrecopyTurns line seg by n job old new turn → WaitsWhere (HasJobAt n.0) new.log turn
+precopy_waits line seg by n job old new (Work file) turns = tt
+precopy_waits line seg by n job old new Done turns = tt
+precopy_waits line seg by n job old new Busy turns = subst (HasJobAt n.0) (sym turns.2.is.log) turns.1
+
+-- a cut-over that waits finds a publish in flight
+pub cut_waits : (line : LineNo) (seg : SegNo) (by : Option At) (old new : Run) (turn : Turn (Unit {0})) → CutTurns line seg by old new turn → WaitsWhere HasPublish new.log turn
+cut_waits line seg by old new (Work w) turns = tt
+cut_waits line seg by old new Done turns = tt
+cut_waits line seg by old new Busy turns = subst HasPublish (sym turns.0.is.log) turns.2
 
 -- ---- one section
 

@@ -28,7 +28,7 @@ use Rattle.cluster_state.specs.FilesOut.{file_out}
 use Rattle.cluster_state.specs.Settles.{IsSettling}
 use Rattle.cluster_state.specs.declared.turn.Turn.{Turn}
 use Rattle.cluster_state.specs.declared.turn.Turn.TheVariants.{Work, Done, Busy}
-use Rattle.cluster_state.specs.CopyCalls.{CopiesFor, AreFrom}
+use Rattle.cluster_state.specs.CopyCalls.{CopiesFor, AreFrom, IsBeingCopied}
 use Rattle.lane_sections.specs.Given.{SiteRun}
 
 -- a line that has started so copies to the node of the job: as a copy, or as a settle
@@ -77,6 +77,10 @@ HasBegunToSettle at left log = start_entry at (printed log) ≡ Some (Settling l
 -- the line settles on with what is left
 abbrev pub IsSettlingOn : ℕ → At → SettleTask → Log → Type 0
 IsSettlingOn size at left log = IsSettling size (printed log) at left
+
+-- a job for the newest version runs at some node
+abbrev pub IsCopiedSomewhere : Log → Type 0
+IsCopiedSomewhere log = (n : NodeNo) × IsBeingCopied log n.0
 
 -- a copy to this node has begun its job
 pub record BeginsCopy (at : At) (n : NodeNo) (task : CopyTask) (log : Log) : Type 0 where

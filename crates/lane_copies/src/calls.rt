@@ -9,8 +9,9 @@ ghost use Rattle.script_serving.specs.declared.script.LineCommand.TheVariants.{S
 ghost use Rattle.cluster_state.specs.DueFaults.{ArrivesBy};
 ghost use Rattle.lane_sections.specs.Given.{DoesAtSite};
 ghost use Rattle.cluster_state.specs.CopyCalls.{CopiesFor};
+ghost use Rattle.lane_sections.specs.Flights.{WaitsWhere};
 ghost use Rattle.lane_sections.specs.Turns.{TurnShows};
-ghost use Rattle.lane_copies.specs.Jobs.{IsCopyingBy, HasFileOut, LeavesJobAt, IsStillSettling, HasBegunToSettle, BeginsNextJob, IsSettlingOn};
+ghost use Rattle.lane_copies.specs.Jobs.{IsCopyingBy, HasFileOut, LeavesJobAt, IsStillSettling, HasBegunToSettle, IsCopiedSomewhere, BeginsNextJob, IsSettlingOn};
 
 use cluster_nodes::{CopyTask, FileTask, SettleTask};
 use copy_job::{JobFault, Part};
@@ -92,6 +93,7 @@ pub fn next_job<D: FaultDir + Drop>(
     requires settling { IsStillSettling site.old.run.nodes at left.old site.old.run.log }
     ensures ok { IfOk result (TurnShows (BeginsNextJob site.new.run.nodes at left.new)
         (IsSettlingOn site.new.run.nodes at left.new) at site.new.run) }
+    ensures waits { IfOk result (WaitsWhere IsCopiedSomewhere site.new.run.log) }
     ensures err { OnErr result (site.new.run.log ≡ site.old.run.log) }
     ensures does { OnOk result (DoesAtSite Settle at site.old site.new) }
 {

@@ -13,6 +13,7 @@ use lane_sections::{Gate, Place};
 use link_model::{Link, LinkFault, MemLink};
 use nrt_base::{At, LineNo, NoMemory, NodeNo};
 use std::alloc::{AllocError, Global};
+use wire_link::WireLink;
 
 /// A link that passes the gate before each chunk, and is else the link that it wraps.
 #[derive(Drop)]
@@ -73,7 +74,8 @@ fn but_memory(fault: JobFault) -> Result<JobFault, NoMemory>
     }
 }
 
-/// Carries a file to a node, over a link that does to it what becomes of it. It fails when out of memory.
+/// Carries a file to a node in the frames that a peer would read, over a link that does to it what becomes of it. It fails when out of
+/// memory.
 pub fn carry<G: Gate>(
     alloc: Global,
     gate: &G,
@@ -85,8 +87,9 @@ pub fn carry<G: Gate>(
     requires footer { HasFooter file.now.source }
     ensures { IfOk result (ArrivesBy file.now) }
 {
+    let memory = MemLink::new(alloc).with_fate(file.fate);
     let mut link = GateLink {
-        link: MemLink::new(alloc).with_fate(file.fate),
+        link: WireLink::new(alloc, memory, file.name),
         gate,
         line: at.line,
         node,

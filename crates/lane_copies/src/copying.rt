@@ -6,6 +6,8 @@ ghost use Rattle.history_rules.specs.Lines.{entries_of_line};
 ghost use Rattle.history_book.specs.Log.{printed};
 ghost use Rattle.script_serving.specs.declared.script.LineCommand.TheVariants.{Copy};
 ghost use Rattle.lane_threads.specs.Seats.{log_seen, IsLaneSeat, EndsItsLine};
+ghost use Rattle.cluster_state.specs.CopyCalls.{IsBeingCopied};
+ghost use Rattle.lane_sections.specs.Flights.{WaitsWhere};
 ghost use Rattle.lane_sections.specs.Turns.{IsUnbegunIn, TurnsLine};
 ghost use Rattle.lane_copies.specs.Jobs.{BeginsCopy};
 
@@ -28,8 +30,9 @@ fn start<R: Wait, D: FaultDir + Drop, G: Gate>(
     requires seat { IsLaneSeat lanes.now.setup.log lanes.now.lock.now at.lane.0 seat.old }
     requires fresh { entries_of_line at (printed (log_seen seat.old)) ≡ [] }
     requires node { IsNode lanes.now.setup.nodes n.0 }
-    ensures { IfOk result (TurnsLine lanes.now.setup.log (BeginsCopy at n) (IsUnbegunIn at)
+    ensures turns { IfOk result (TurnsLine lanes.now.setup.log (BeginsCopy at n) (IsUnbegunIn at)
         lanes.now.lock.now (Copy n) at seat.old seat.new) }
+    ensures waits { IfOk result (WaitsWhere (λ log. IsBeingCopied log n.0) (log_seen seat.new)) }
 {
     let mut held = enter_site(lanes, seat, at)?;
     let answer = held.value().copy_start(lanes.alloc, at, n);
@@ -52,7 +55,7 @@ pub fn copy<R: Wait, D: FaultDir + Drop, G: Gate>(
 {
     for _ in lanes.rt.forever() {
         match start(lanes, seat, at, n)? {
-            Turn::Busy => give_way(lanes.halt)?,
+            Turn::Busy => give_way(lanes.halt, seat)?,
             Turn::Done => return Ok(()),
             Turn::Work(task) => return bring_over(lanes, seat, at, &task),
         }

@@ -12,7 +12,7 @@ ghost use Rattle.lane_copies.specs.Taken.{WorksOn};
 use crate::tasks::do_first;
 use disk_model::FaultDir;
 use hist_lock::LaneSeat;
-use lane_sections::{Gate, Lanes, Site, Turn, enter_site, give_way};
+use lane_sections::{Gate, Lanes, Site, Turn, enter_site};
 use lane_threads::leave;
 use nrt_base::{At, NoMemory};
 use std::alloc::AllocError;
@@ -56,7 +56,7 @@ fn end<R: Wait, D: FaultDir + Drop, G: Gate>(
     answer
 }
 
-// Does the task that was posted first, for a drain line. Where another has taken it the line gives way.
+// Does the task that was posted first, for a drain line. Where another has taken the last one there is none, and the line does not wait.
 fn help<R: Wait, D: FaultDir + Drop, G: Gate>(
     lanes: &Lanes<'_, R, D, G>,
     seat: &mut LaneSeat<Site<D>>,
@@ -66,11 +66,8 @@ fn help<R: Wait, D: FaultDir + Drop, G: Gate>(
     ensures { OnOk result (WorksOn lanes.now.setup.log lanes.now.lock.now at.lane.0 (Some at)
         seat.old seat.new) }
 {
-    let done = do_first(lanes, seat, at, Some(at))?;
-    if done {
-        return Ok(());
-    }
-    give_way(lanes.halt)
+    do_first(lanes, seat, at, Some(at))?;
+    Ok(())
 }
 
 /// Does tasks of merges, until as many count for the line as it asks for, or none is posted.

@@ -1,4 +1,4 @@
-//! The copies and merges of lanes, with their work between the sections.
+//! The copies and merges of lanes, with their work between the sections: the lines that workers help, and all that a worker does.
 #![tactic(auto)]
 
 mod calls;

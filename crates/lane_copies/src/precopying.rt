@@ -4,6 +4,7 @@ ghost use Rattle.std.specs.Prelude.{IfOk, OnOk};
 ghost use Rattle.history_rules.specs.Nodes.{IsNode};
 ghost use Rattle.cluster_state.specs.DueFaults.{ArrivesBy};
 ghost use Rattle.lane_threads.specs.Seats.{log_seen, IsLaneSeat};
+ghost use Rattle.lane_sections.specs.Flights.{HasJobAt, WaitsWhere};
 ghost use Rattle.lane_copies.specs.Taken.{IsTakerAt, IsCarriedIn, WorksOn, HandsOn};
 
 use crate::carrying::carry;
@@ -28,8 +29,9 @@ fn hand_out<R: Wait, D: FaultDir + Drop, G: Gate>(
     requires seat { IsLaneSeat lanes.now.setup.log lanes.now.lock.now at.lane.0 seat.old }
     requires by { IsTakerAt at task.now.by }
     requires node { IsNode lanes.now.setup.nodes copy.node.0 }
-    ensures { IfOk result (HandsOn lanes.now.setup.log lanes.now.lock.now at.lane.0 task.now.by
-        seat.old seat.new) }
+    ensures hands { IfOk result (HandsOn lanes.now.setup.log lanes.now.lock.now at.lane.0
+        task.now.by seat.old seat.new) }
+    ensures waits { IfOk result (WaitsWhere (HasJobAt copy.node.0) (log_seen seat.new)) }
 {
     let mut held = enter_site(lanes, seat, at)?;
     let answer = held.value().precopy_next(lanes.alloc, task, copy);
@@ -103,7 +105,7 @@ pub fn copy_over<R: Wait, D: FaultDir + Drop, G: Gate>(
 {
     for _ in lanes.rt.forever() {
         match hand_out(lanes, seat, at, task, copy)? {
-            Turn::Busy => give_way(lanes.halt)?,
+            Turn::Busy => give_way(lanes.halt, seat)?,
             Turn::Done => {
                 lanes.halt.stir();
                 return Ok(());

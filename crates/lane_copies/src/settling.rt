@@ -5,8 +5,9 @@ ghost use Rattle.history_rules.specs.Lines.{entries_of_line};
 ghost use Rattle.history_book.specs.Log.{printed};
 ghost use Rattle.script_serving.specs.declared.script.LineCommand.TheVariants.{Settle};
 ghost use Rattle.lane_threads.specs.Seats.{log_seen, IsLaneSeat, EndsItsLine};
+ghost use Rattle.lane_sections.specs.Flights.{WaitsWhere};
 ghost use Rattle.lane_sections.specs.Turns.{NeverWaits, TurnsLine};
-ghost use Rattle.lane_copies.specs.Jobs.{HasBegunToSettle, IsStillSettling, BeginsNextJob, IsSettlingOn};
+ghost use Rattle.lane_copies.specs.Jobs.{HasBegunToSettle, IsStillSettling, IsCopiedSomewhere, BeginsNextJob, IsSettlingOn};
 
 use crate::calls::next_job;
 use crate::jobs::bring_over;
@@ -45,9 +46,11 @@ fn begin<R: Wait, D: FaultDir + Drop, G: Gate>(
     requires seat { IsLaneSeat lanes.now.setup.log lanes.now.lock.now at.lane.0 seat.old }
     requires started { HasBegunToSettle at left.old (log_seen seat.old) }
     requires settling { IsStillSettling lanes.now.setup.nodes at left.old (log_seen seat.old) }
-    ensures { IfOk result (TurnsLine lanes.now.setup.log (BeginsNextJob lanes.now.setup.nodes at
-        left.new) (IsSettlingOn lanes.now.setup.nodes at left.new) lanes.now.lock.now Settle at
+    ensures turns { IfOk result (TurnsLine lanes.now.setup.log
+        (BeginsNextJob lanes.now.setup.nodes at left.new)
+        (IsSettlingOn lanes.now.setup.nodes at left.new) lanes.now.lock.now Settle at
         seat.old seat.new) }
+    ensures waits { IfOk result (WaitsWhere IsCopiedSomewhere (log_seen seat.new)) }
 {
     let mut held = enter_site(lanes, seat, at)?;
     let answer = next_job(held.value(), lanes.alloc, at, left);
@@ -69,7 +72,7 @@ fn settle_on<R: Wait, D: FaultDir + Drop, G: Gate>(
 {
     for _ in lanes.rt.forever() {
         match begin(lanes, seat, at, &mut left)? {
-            Turn::Busy => give_way(lanes.halt)?,
+            Turn::Busy => give_way(lanes.halt, seat)?,
             Turn::Done => return Ok(()),
             Turn::Work(task) => bring_over(lanes, seat, at, &task)?,
         }

@@ -4,6 +4,7 @@ ghost use Rattle.std.specs.Prelude.{◌≡◌, false, IfOk, OnOk};
 ghost use Rattle.cluster_merges.specs.MergePaths.{IsMergedOut};
 ghost use Rattle.lane_threads.specs.Seats.{log_seen, IsLaneSeat};
 ghost use Rattle.lane_threads.specs.Parts.{IsIdleLane, HasHeard};
+ghost use Rattle.lane_sections.specs.Flights.{HasPublish, WaitsWhere};
 ghost use Rattle.lane_copies.specs.Taken.{IsTakerAt, IsTaskIn, IsMergeIn, WorksOn, TakesOn};
 
 use crate::precopying::copy_over;
@@ -86,8 +87,9 @@ fn cut<R: Wait, D: FaultDir + Drop, G: Gate>(
 ) -> Result<Turn<()>, NoMemory>
     requires seat { IsLaneSeat lanes.now.setup.log lanes.now.lock.now at.lane.0 seat.old }
     requires by { IsTakerAt at task.now.by }
-    ensures { OnOk result (WorksOn lanes.now.setup.log lanes.now.lock.now at.lane.0 task.now.by
-        seat.old seat.new) }
+    ensures works { OnOk result (WorksOn lanes.now.setup.log lanes.now.lock.now at.lane.0
+        task.now.by seat.old seat.new) }
+    ensures waits { IfOk result (WaitsWhere HasPublish (log_seen seat.new)) }
 {
     let mut held = enter_site(lanes, seat, at)?;
     let answer = held.value().merge_cut(lanes.alloc, task);
@@ -109,7 +111,7 @@ fn cut_over<R: Wait, D: FaultDir + Drop, G: Gate>(
 {
     for _ in lanes.rt.forever() {
         match cut(lanes, seat, at, task)? {
-            Turn::Busy => give_way(lanes.halt)?,
+            Turn::Busy => give_way(lanes.halt, seat)?,
             Turn::Done => return Ok(()),
             Turn::Work(()) => return Ok(()),
         }

@@ -17,9 +17,9 @@ use Rattle.cluster_state.specs.Run.{Run}
 use Rattle.cluster_state.specs.declared.turn.Turn.{Turn}
 use Rattle.cluster_state.specs.declared.turn.Turn.TheVariants.{Work, Done, Busy}
 use Rattle.cluster_state.specs.LifeCalls.{CommitStarts, CommitSteps}
-use Rattle.cluster_core.specs.Doing.{IsRepliedAtDone, IsBegunAtWork}
 use Rattle.cluster_state.proofs.MetLines.{met_last}
-use Rattle.lane_sections.specs.Given.{SiteRun}
+use Rattle.lane_sections.specs.Given.{SiteRun, IsRepliedAtDone, IsBegunAtWork}
+use Rattle.lane_sections.specs.Flights.{HasCommitAt, WaitsWhere}
 use Rattle.lane_sections.specs.Turns.{IsUnbegunIn, NeverWaits, TurnShows}
 use Rattle.lane_lines.specs.Commits.{HasBegunCommit, IsCommitting}
 
@@ -29,6 +29,12 @@ commit_shows at n old new (Work task) fresh starts replied begun =
     record { node = starts.0.node; begun = begun.last ∙ ap (λ (m : NodeNo). Some (Committing m task.version)) (sym starts.0.node) }
 commit_shows at n old new Done fresh starts replied begun = replied
 commit_shows at n old new Busy fresh starts replied begun = subst (λ (r : Run). entries_of_line at (printed r.log) ≡ []) (sym starts.0) fresh
+
+-- where it waits a commit is in flight there
+pub commit_waits : (at : At) (n : NodeNo) (old new : Run) (turn : Turn CommitTask) → CommitStarts at n old new turn → WaitsWhere (HasCommitAt n.0) new.log turn
+commit_waits at n old new (Work task) starts = tt
+commit_waits at n old new Done starts = tt
+commit_waits at n old new Busy starts = subst (λ (r : Run). HasCommitAt n.0 r.log) (sym starts.0) starts.2
 
 pub step_shows : (at : At) (task : CommitTask) (old new : Run) (turn : Turn (Unit {0})) → HasBegunCommit at task old.log → CommitSteps at task.node task.version old new turn → IsRepliedAtDone at new turn
     → TurnShows (λ made. HasBegunCommit at task) NeverWaits at new turn

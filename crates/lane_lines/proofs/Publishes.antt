@@ -21,7 +21,8 @@ use Rattle.cluster_state.specs.Writes.{IsFlushed}
 use Rattle.cluster_state.specs.declared.turn.Turn.{Turn}
 use Rattle.cluster_state.specs.declared.turn.Turn.TheVariants.{Work, Done, Busy}
 use Rattle.cluster_state.specs.Calls.{PublishStarts}
-use Rattle.cluster_core.specs.Doing.{IsRepliedAtDone, IsBegunAtWork}
+use Rattle.lane_sections.specs.Given.{IsRepliedAtDone, IsBegunAtWork}
+use Rattle.lane_sections.specs.Flights.{HasPublish, WaitsWhere}
 use Rattle.lane_sections.specs.Turns.{IsUnbegunIn, TurnShows}
 use Rattle.lane_lines.specs.Flushes.{IsFlushing}
 
@@ -41,6 +42,12 @@ publish_shows at old new (Work task) fresh starts replied begun =
     }
 publish_shows at old new Done fresh starts replied begun = replied
 publish_shows at old new Busy fresh starts replied begun = subst (λ (r : Run). entries_of_line at (printed r.log) ≡ []) (sym starts.0) fresh
+
+-- where it waits a publish is in flight
+pub publish_waits : (at : At) (old new : Run) (turn : Turn FlushTask) → PublishStarts at old new turn → WaitsWhere HasPublish new.log turn
+publish_waits at old new (Work task) starts = tt
+publish_waits at old new Done starts = tt
+publish_waits at old new Busy starts = subst (λ (r : Run). HasPublish r.log) (sym starts.0) starts.2
 
 out_there : (at : At) (more old : Log) (h : Handed) → flush_out at old ≡ Some h → flush_out at (more ++ old) ≡ Some h
 out_there at [] old h is = is

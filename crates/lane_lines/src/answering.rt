@@ -4,7 +4,7 @@ ghost use Rattle.std.specs.Prelude.{◌≡◌, OnOk};
 ghost use Rattle.history_rules.specs.Lines.{last_of_line};
 ghost use Rattle.history_book.specs.Log.{printed};
 ghost use Rattle.script_serving.specs.declared.script.LineCommand.{LineCommand};
-ghost use Rattle.cluster_core.specs.Doing.{AsksFor};
+ghost use Rattle.lane_sections.specs.Given.{AsksFor};
 ghost use Rattle.lane_threads.specs.Seats.{log_seen, IsLaneSeat, EndsItsLine};
 ghost use Rattle.lane_lines.specs.Reads.{IsEvaluated};
 

@@ -6,6 +6,7 @@ ghost use Rattle.history_rules.specs.Lines.{entries_of_line};
 ghost use Rattle.history_book.specs.Log.{printed};
 ghost use Rattle.script_serving.specs.declared.script.LineCommand.TheVariants.{Commit};
 ghost use Rattle.lane_threads.specs.Seats.{log_seen, IsLaneSeat, EndsItsLine};
+ghost use Rattle.lane_sections.specs.Flights.{HasCommitAt, WaitsWhere};
 ghost use Rattle.lane_sections.specs.Turns.{IsUnbegunIn, NeverWaits, TurnsLine};
 ghost use Rattle.lane_lines.specs.Commits.{HasBegunCommit, IsCommitting};
 
@@ -27,8 +28,9 @@ fn start<R: Wait, D: FaultDir + Drop, G: Gate>(
     requires seat { IsLaneSeat lanes.now.setup.log lanes.now.lock.now at.lane.0 seat.old }
     requires fresh { entries_of_line at (printed (log_seen seat.old)) ≡ [] }
     requires node { IsNode lanes.now.setup.nodes n.0 }
-    ensures { IfOk result (TurnsLine lanes.now.setup.log (IsCommitting at n) (IsUnbegunIn at)
+    ensures turns { IfOk result (TurnsLine lanes.now.setup.log (IsCommitting at n) (IsUnbegunIn at)
         lanes.now.lock.now (Commit n) at seat.old seat.new) }
+    ensures waits { IfOk result (WaitsWhere (HasCommitAt n.0) (log_seen seat.new)) }
 {
     let mut held = enter_site(lanes, seat, at)?;
     let answer = held.value().commit_start(lanes.alloc, at, n);
@@ -91,7 +93,7 @@ pub fn commit<R: Wait, D: FaultDir + Drop, G: Gate>(
 {
     for _ in lanes.rt.forever() {
         match start(lanes, seat, at, n)? {
-            Turn::Busy => give_way(lanes.halt)?,
+            Turn::Busy => give_way(lanes.halt, seat)?,
             Turn::Done => return Ok(()),
             Turn::Work(task) => return finish(lanes, seat, at, &task),
         }

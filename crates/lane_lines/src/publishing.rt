@@ -7,6 +7,7 @@ ghost use Rattle.history_book.specs.Log.{printed};
 ghost use Rattle.script_serving.specs.declared.script.LineCommand.TheVariants.{Publish};
 ghost use Rattle.cluster_state.specs.Writes.{IsFlushed};
 ghost use Rattle.lane_threads.specs.Seats.{log_seen, IsLaneSeat, EndsItsLine};
+ghost use Rattle.lane_sections.specs.Flights.{HasPublish, WaitsWhere};
 ghost use Rattle.lane_sections.specs.Turns.{IsUnbegunIn, TurnsLine};
 ghost use Rattle.lane_lines.specs.Flushes.{IsFlushing};
 
@@ -26,8 +27,9 @@ fn start<R: Wait, D: FaultDir + Drop, G: Gate>(
 ) -> Result<Turn<FlushTask>, NoMemory>
     requires seat { IsLaneSeat lanes.now.setup.log lanes.now.lock.now at.lane.0 seat.old }
     requires fresh { entries_of_line at (printed (log_seen seat.old)) ≡ [] }
-    ensures { IfOk result (TurnsLine lanes.now.setup.log (IsFlushing at) (IsUnbegunIn at)
+    ensures turns { IfOk result (TurnsLine lanes.now.setup.log (IsFlushing at) (IsUnbegunIn at)
         lanes.now.lock.now Publish at seat.old seat.new) }
+    ensures waits { IfOk result (WaitsWhere HasPublish (log_seen seat.new)) }
 {
     let mut held = enter_site(lanes, seat, at)?;
     let answer = held.value().publish_start(lanes.alloc, at);
@@ -84,7 +86,7 @@ pub fn publish<R: Wait, D: FaultDir + Drop, G: Gate>(
 {
     for _ in lanes.rt.forever() {
         match start(lanes, seat, at)? {
-            Turn::Busy => give_way(lanes.halt)?,
+            Turn::Busy => give_way(lanes.halt, seat)?,
             Turn::Done => return Ok(()),
             Turn::Work(task) => return build(lanes, seat, at, &task),
         }

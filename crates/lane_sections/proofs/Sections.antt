@@ -1,6 +1,6 @@
 -- What a section of one call did for its line, and how sections join.
-use Rattle.std.proofs.Common.{◌≡◌, ℕ, List, [], Bool, ap, ◌∙◌, sym, subst, reverse}
-use Rattle.std.specs.Prelude.{Result, Ok, Err, OnOk, OnErr, IfOk}
+use Rattle.std.proofs.Common.{◌≡◌, ℕ, List, [], Bool, Option, Some, None, refl, ap, ◌∙◌, sym, subst, reverse, inl, inr}
+use Rattle.std.specs.Prelude.{Result, Ok, Err, OnOk, OnErr, IfOk, IsSome, IsSomeAnd}
 use Rattle.std.proofs.lemmas.Result.{on_ok_weaker, on_err_weaker}
 use Rattle.nrt_base.specs.declared.numbers.At.{At}
 use Rattle.history_rules.specs.Lines.{entries_of_line}
@@ -23,6 +23,7 @@ use Rattle.cluster_state.specs.declared.turn.Turn.{Turn}
 use Rattle.cluster_state.specs.declared.turn.Turn.TheVariants.{Work, Done, Busy}
 use Rattle.cluster_site.specs.Given.{IsReplied}
 use Rattle.cluster_site.specs.Sites.{SiteRun, DoesAtSite, is_logged}
+use Rattle.lane_sections.specs.Flights.{HasPublish, HasCommitAt, HasJobAt, HasFlight, WaitsWhere}
 use Rattle.lane_sections.specs.Turns.{TakesLineTo, IsUnbegunIn, TurnShows, TurnsLine}
 
 -- ---- one call
@@ -84,11 +85,11 @@ module _ {g : Ghosts SiteRun Mark} {logged : Bool} (lock : HistLock SiteRun Mark
     -- it took its line on
     pub call_takes : (now : Log → Type 0) → DoesAtSite command at found new → now new.run.log → TakesLineTo logged now lock command at before after
     call_takes now does is =
-        record { taken = section_taken no_answer logged lock command at before after found.run.log new.run.log entered.has (left logged) seen (goes_here does); now = subst now (sym seen) is }
+        record { taken = section_taken no_answer logged lock command at before after found.run.log new.run.log entered.has (left logged) seen (goes_here does) does.none; now = subst now (sym seen) is }
 
     -- it ended its line
     pub call_ends : DoesAtSite command at found new → IsReplied at new.run → EndsItsLine logged lock command at before after
-    call_ends does replied = section_ended no_answer logged lock command at before after found.run.log new.run.log entered.has (left logged) seen (goes_here does) replied
+    call_ends does replied = section_ended no_answer logged lock command at before after found.run.log new.run.log entered.has (left logged) seen (goes_here does) does.none replied
 
     pub on_call_ends : {T E : Type 0} (r : Result T E) → OnOk r (DoesAtSite command at found new) → OnOk r (IsReplied at new.run) → OnOk r (EndsItsLine logged lock command at before after)
     on_call_ends (Ok x) does replied = call_ends does replied
@@ -126,3 +127,22 @@ module _ {g : Ghosts SiteRun Mark} {logged : Bool} (lock : HistLock SiteRun Mark
     pub on_takes_ends : {T E : Type 0} (r : Result T E) → OnOk r (EndsItsLine logged lock command at b c) → OnOk r (EndsItsLine logged lock command at a c)
     on_takes_ends (Ok x) k = takes_ends k
     on_takes_ends (Err x) k = tt
+
+-- ---- what is waited for
+
+-- a turn waits only where this is so of what its seat has seen
+pub on_waits : {W E : Type 0} (holds : Log → Type 0) (new seen : Log) (r : Result (Turn W) E) → seen ≡ new → IfOk r (WaitsWhere holds new) → IfOk r (WaitsWhere holds seen)
+on_waits holds new seen r is h = subst (λ (log : Log). IfOk r (WaitsWhere holds log)) (sym is) h
+
+pub some_there : {X : Type 0} (o : Option X) (P : X → Type 0) → IsSomeAnd o P → IsSome o
+some_there None P h = absurd h
+some_there (Some x) P h = refl
+
+pub publish_waited : (log : Log) → HasPublish log → HasFlight log
+publish_waited log there = inl there
+
+pub commit_waited : (n : ℕ) (log : Log) → HasCommitAt n log → HasFlight log
+commit_waited n log there = inr (n, inl there)
+
+pub job_waited : (n : ℕ) (log : Log) → HasJobAt n log → HasFlight log
+job_waited n log there = inr (n, inr there)

@@ -1,12 +1,21 @@
-//! How a line waits for another lane's.
+//! How a line or a task waits for what another line has in flight.
 
+ghost use Rattle.lane_threads.specs.Seats.{log_seen};
+ghost use Rattle.lane_sections.specs.Flights.{HasFlight};
+
+use cluster_site::Site;
+use disk_model::FaultDir;
+use hist_lock::LaneSeat;
 use lane_threads::Halt;
 use nrt_base::NoMemory;
 use std::alloc::AllocError;
 use std::thread::yield_now;
 
-/// Lets other threads go on. Where a lane has failed, what the line waits for may never come, and it ends too.
-pub fn give_way(halt: &Halt) -> Result<(), NoMemory> {
+/// Lets other threads go on, where a line has something in flight as the seat has seen. Workers have no lines, so nothing waits for a
+/// worker. Where a lane has failed, what is waited for may never come, and the caller ends too.
+pub fn give_way<D: FaultDir + Drop>(halt: &Halt, seat: &LaneSeat<Site<D>>) -> Result<(), NoMemory>
+    requires { HasFlight (log_seen seat.now) }
+{
     if halt.is_set() {
         return Err(AllocError);
     }

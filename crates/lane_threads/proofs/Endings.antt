@@ -1,6 +1,6 @@
 -- What all lanes have done once their seats are joined and the lock is closed.
 use Rattle.std.proofs.Common.{◌≡◌, ℕ, ◌<◌, ◌≤◌, Bool, List, [], ◌∷◌, ◌++◌, ◌∙◌, sym, subst, arith, reverse, length, take, drop, inl, inr}
-use Rattle.std.specs.Prelude.{slice_index_or, ◌-◌, Result, Ok, Err, OnOk}
+use Rattle.std.specs.Prelude.{slice_index_or, ◌-◌}
 use Rattle.std.proofs.lemmas.Bool.{cases_lt}
 use Rattle.std.proofs.lemmas.List.{reverse-reverse, take_all, drop_all}
 use Rattle.std.proofs.Math.Seq.{take-append_seam}
@@ -20,7 +20,8 @@ use Rattle.history_book.specs.Log.{Log, name_of}
 use Rattle.lane_threads.specs.Owes.{FaultsFit, IsSettledLog}
 use Rattle.lane_threads.specs.Walks.{GrowsByOthers}
 use Rattle.lane_threads.specs.Phases.{LaneReady, LaneEnds, LanesEnd, IsHistoryOf}
-use Rattle.lane_threads.proofs.ScriptLemmas.{form_of, script_served}
+use Rattle.lane_threads.specs.Idle.{NoneIsTold}
+use Rattle.lane_threads.proofs.ScriptLemmas.{form_of, script_served, script_none}
 use Rattle.lane_threads.specs.Seats.{log_seen}
 use Rattle.lane_threads.proofs.SeatLemmas.{apart_of, of_lanes}
 use Rattle.lane_threads.specs.declared.lane.Lane.{Lane}
@@ -96,10 +97,12 @@ module _ {T : Type 0} {g : Ghosts T Mark} (named : g.names ≡ name_of) (lock : 
   pub script_left : IsInForm script → (h : History) → IsHistoryOf script.nodes log h → Serves script h
   script_left form h of = script_served script log h (form_of script form) (ends_with (first_of ls done.crew.lanes)) of
 
+  -- and its answers `none` are so
+  pub none_left : IsInForm script → NoneIsTold script log
+  none_left form = script_none script log (form_of script form) (ends_with (first_of ls done.crew.lanes))
+
 -- what a slice of a vector leaves behind: the vector has it
-pub phases_back : {T X E : Type 0} {g : Ghosts T Mark} (r : Result X E) (logged : Bool) (lock : HistLock T Mark) (phases : List Phase) (k m n w : ℕ) (s : LaneSeat T Mark g) (ls rest : List (Lane T Mark g))
-    → w ≡ m → m ≡ n → OnOk r (ArePhasesDone logged lock m phases k s ls) → OnOk r (ArePhasesDone logged lock n phases k s (take w (ls ++ rest)))
-phases_back (Ok x) logged lock phases k m n w s ls rest here there h =
-    let whole : ls ≡ take w (ls ++ rest) = sym (subst (λ (j : ℕ). take j (ls ++ rest) ≡ ls) (h.count ∙ sym here) (take-append_seam ls rest)) in
-    subst (λ (j : ℕ). ArePhasesDone logged lock j phases k s (take w (ls ++ rest))) there (subst (ArePhasesDone logged lock m phases k s) whole h)
-phases_back (Err x) logged lock phases k m n w s ls rest here there h = tt
+pub phases_back : {T : Type 0} {g : Ghosts T Mark} (logged : Bool) (lock : HistLock T Mark) (phases : List Phase) (k n w : ℕ) (s : LaneSeat T Mark g) (ls rest : List (Lane T Mark g))
+    → w ≡ n → ArePhasesDone logged lock n phases k s ls → ArePhasesDone logged lock n phases k s (take w (ls ++ rest))
+phases_back logged lock phases k n w s ls rest here h =
+    subst (ArePhasesDone logged lock n phases k s) (sym (subst (λ (j : ℕ). take j (ls ++ rest) ≡ ls) (h.count ∙ sym here) (take-append_seam ls rest))) h

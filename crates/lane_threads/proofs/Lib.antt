@@ -4,6 +4,7 @@ mod EventParts
 pub mod FormLemmas
 pub mod Heard
 mod HeardLanes
+pub mod IdleLemmas
 pub mod LineLemmas
 pub mod PartLemmas
 pub mod Parts

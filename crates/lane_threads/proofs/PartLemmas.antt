@@ -1,5 +1,5 @@
 -- A phase's part of a lane's walk, and the walk over the whole script.
-use Rattle.std.proofs.Common.{◌≡◌, ◌&&◌, ◌||◌, ◌==◌, ℕ, Bool, true, false, List, [], ◌∷◌, ◌++◌, Some, None, Option, refl, ap, ◌∙◌, subst, if◌then◌else◌}
+use Rattle.std.proofs.Common.{◌≡◌, ◌&&◌, ◌||◌, ◌==◌, ℕ, Bool, true, false, List, [], ◌∷◌, ◌++◌, Some, None, Option, refl, ap, ◌∙◌, sym, subst, if◌then◌else◌}
 use Rattle.std.proofs.lemmas.Bool.{and_parts, and_from, true≢false, false≢true, eqb-true}
 use Rattle.std.specs.Prelude.{⊤}
 use Rattle.history_tables.proofs.RowLemmas.{by_test, same_at_is}
@@ -21,8 +21,9 @@ use Rattle.script_serving.specs.Serves.{Begins, First, Suits, SuitsFault, FitsTu
 use Rattle.history_book.specs.declared.inner.Mark.TheVariants.{Shown, TaskFault, Kept}
 use Rattle.history_book.specs.Log.{Log, printed, has_merging, begins_merge, FollowsMerging}
 use Rattle.lane_threads.specs.Owes.{FaultsFit}
+use Rattle.lane_threads.specs.Idle.{NoneIsSo}
 use Rattle.lane_threads.specs.Walks.{OnLane, ServesSince}
-use Rattle.lane_threads.specs.Phases.{ServesLane}
+use Rattle.lane_threads.specs.Phases.{ServesLane, NoneOnLane}
 use Rattle.lane_threads.proofs.WalkLemmas.{lane_self, on_map, off_this, all_answered_stays}
 use Rattle.lane_threads.proofs.StayLemmas.{merging_there, fresh_fault}
 
@@ -193,7 +194,7 @@ module _ (logged : Bool) (lane : ℕ) (done part later : List Line) (apart : (at
   serves_part [] old h f d s = s
   serves_part (Shown e ∷ more) old h f d s =
       let past : Past = printed (more ++ old) in (
-        on_map (e.at.lane.0 == lane) _ _ (λ same fits. fits_in (due logged past) e.at past e.event (command_at part e.at) refl (all_answered_stays done more old d) fits) h.0,
+        on_map (e.at.lane.0 == lane) _ _ (λ same owed. fits_in (due logged past) e.at past e.event (command_at part e.at) refl (all_answered_stays done more old d) owed.0) h.0,
         serves_part more old h.1 (record { follow = f.follow; wait = f.wait }) d s,
       )
   serves_part (TaskFault e ∷ more) old h f d s =
@@ -208,6 +209,23 @@ module _ (logged : Bool) (lane : ℕ) (done part later : List Line) (apart : (at
       )
   serves_part (Kept i ∷ more) old h f d s = serves_part more old h (record { follow = f.follow; wait = f.wait }) d s
 
+  -- an answer `none` that is so among the lines of the part is so among all
+  none_in : (ops : List Op) (at : At) (log : Log) (e : Event) (o : Option LineCommand) → command_at part at ≡ o → Fits ops part (printed log) at o e → NoneIsSo o log e
+      → NoneIsSo (command_at (done ++ (part ++ later)) at) log e
+  none_in ops at log e None is fits none = absurd (fits_nowhere ops part (printed log) at e fits)
+  none_in ops at log e (Some c) is fits none =
+      let found : command_at (done ++ (part ++ later)) at ≡ Some c = command_past done (part ++ later) at (apart at c is) ∙ command_in part later at c is in
+      λ asks. none (sym found ∙ asks)
+
+  pub none_part : (more old : Log) → ServesSince logged lane part more old → NoneOnLane lane (done ++ (part ++ later)) old → NoneOnLane lane (done ++ (part ++ later)) (more ++ old)
+  none_part [] old h n = n
+  none_part (Shown e ∷ more) old h n = (
+    on_map (e.at.lane.0 == lane) _ _ (λ same owed. none_in (due logged (printed (more ++ old))) e.at (more ++ old) e.event (command_at part e.at) refl owed.0 owed.1) h.0,
+    none_part more old h.1 n,
+  )
+  none_part (TaskFault e ∷ more) old h n = none_part more old h n
+  none_part (Kept i ∷ more) old h n = none_part more old h n
+
 -- ---- lines of the lane that are not of this part stay without an entry
 
 pub fresh_since : (logged : Bool) (lane : ℕ) (part : List Line) (at : At) (more old : Log) → at.lane.0 ≡ lane → has_line part at ≡ false
@@ -220,7 +238,7 @@ fresh_since logged lane part at (Shown e ∷ more) old mine none h f fresh =
     (λ same.
     let is : e.at ≡ at = same_at_is e.at at same in
     let is_lane : (e.at.lane.0 == lane) ≡ true = rw (ap (λ (a : At). a.lane.0) is ∙ mine) (lane_self lane) in
-    let fits : Fits (due logged past) part past e.at (command_at part e.at) e.event = off_this _ _ is_lane h.0 in
+    let fits : Fits (due logged past) part past e.at (command_at part e.at) e.event = (off_this _ _ is_lane h.0).0 in
     let nothing : command_at part e.at ≡ None = ap (command_at part) is ∙ no_command part at none in
     absurd (fits_nowhere (due logged past) part past e.at e.event (subst (λ (o : Option LineCommand). Fits (due logged past) part past e.at o e.event) nothing fits)))
     (λ other. ih)

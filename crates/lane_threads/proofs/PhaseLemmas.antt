@@ -24,10 +24,10 @@ use Rattle.history_book.specs.declared.inner.Mark.TheVariants.{Shown, TaskFault,
 use Rattle.history_book.specs.Log.{Log, printed, FollowsMerging}
 use Rattle.lane_threads.specs.Owes.{FaultsFit}
 use Rattle.lane_threads.specs.Walks.{OnLane, NoneOf, ServesSince, GrowsByOthers, AreUnbegun, ArePart}
-use Rattle.lane_threads.specs.Phases.{lines_in, lane_lines, ArePhasesInForm, ServesLane, ServesLanePhases, LaneServes, LaneReady, PhaseDone}
+use Rattle.lane_threads.specs.Phases.{lines_in, lane_lines, ArePhasesInForm, ServesLane, ServesLanePhases, NoneOnLane, LaneServes, LaneReady, PhaseDone}
 use Rattle.lane_threads.proofs.WalkLemmas.{other_lane, on_other, on_map, none_serves, all_answered_stays}
 use Rattle.lane_threads.proofs.StayLemmas.{merging_there}
-use Rattle.lane_threads.proofs.PartLemmas.{IsMergeAt, has_command, fits_line, merge_command, serves_part, fresh_since}
+use Rattle.lane_threads.proofs.PartLemmas.{IsMergeAt, has_command, fits_line, merge_command, serves_part, none_part, fresh_since}
 use Rattle.lane_threads.proofs.FormLemmas.{answered-append, answered_front, answered_back, command_of_lane, line_of_phase, line_behind, ascending_back, ascending_front, lane_answered, under_owned, lane_owned}
 
 -- ---- lines without entries
@@ -108,6 +108,12 @@ module _ (logged : Bool) (lane : ℕ) (phases before after : List Phase) (phase 
       (serves_part logged lane (lane_lines lane before) (lines_under lane phase.lanes) (lane_lines lane after) not_before more old h f
       (lane_answered lane before (printed old) d) (subst (λ (ls : List Line). ServesLane logged lane ls (printed old)) whole_is s))
 
+  none_on : (more old : Log) → ServesSince logged lane (lines_under lane phase.lanes) more old → NoneOnLane lane (lane_lines lane phases) old → NoneOnLane lane (lane_lines lane phases) (more ++ old)
+  none_on more old h n =
+      subst (λ (ls : List Line). NoneOnLane lane ls (more ++ old)) (sym whole_is)
+      (none_part logged lane (lane_lines lane before) (lines_under lane phase.lanes) (lane_lines lane after) not_before more old h
+      (subst (λ (ls : List Line). NoneOnLane lane ls old) whole_is n))
+
   in_phase_here : (at : At) (past : Past) (b : Bool) → has_line (lines_under lane phase.lanes) at ≡ true → all_answered (lines_in before) past ≡ true
       → (b || earlier_phases_answered phases at past) ≡ true
   in_phase_here at past b h d =
@@ -120,9 +126,9 @@ module _ (logged : Bool) (lane : ℕ) (phases before after : List Phase) (phase 
   phases_on [] old h f d s p = p
   phases_on (Shown e ∷ more) old h f d s p =
       let past : Past = printed (more ++ old) in (
-        on_map (e.at.lane.0 == lane) _ _ (λ same fits.
+        on_map (e.at.lane.0 == lane) _ _ (λ same owed.
             in_phase_here e.at past (is_merge_fault (command_at (lines_in phases) e.at) e.event)
-            (fits_line (due logged past) (lines_under lane phase.lanes) past e.at e.event fits) (all_answered_stays (lines_in before) more old d)) h.0,
+            (fits_line (due logged past) (lines_under lane phase.lanes) past e.at e.event owed.0) (all_answered_stays (lines_in before) more old d)) h.0,
         phases_on more old h.1 (record { follow = f.follow; wait = f.wait }) d s p,
       )
   phases_on (TaskFault e ∷ more) old h f d s p =
@@ -156,6 +162,7 @@ module _ (logged : Bool) (lane : ℕ) (phases before after : List Phase) (phase 
               (serves_on more old done.goes.serves faults ready.answered ready.serves.serves);
           in_phase = subst (λ (l : Log). ServesLanePhases lane (lines_in phases) phases (printed l)) (sym is)
               (phases_on more old done.goes.serves faults ready.answered ready.serves.serves ready.serves.in_phase);
+          none = subst (λ (l : Log). NoneOnLane lane (lane_lines lane phases) l) (sym is) (none_on more old done.goes.serves ready.serves.none);
         };
         answered = subst (λ (ls : List Line). all_answered ls (printed new) ≡ true) (sym (flat_map-append lines_of_phase before (phase ∷ [])))
             (answered-append (lines_in before) (lines_of_phase phase ++ []) (printed new) stays
@@ -171,7 +178,7 @@ module _ (logged : Bool) (lane : ℕ) (phases before after : List Phase) (phase 
 pub ready_first : (logged : Bool) (lane : ℕ) (phases : List Phase) → LaneReady logged lane phases [] phases []
 ready_first logged lane phases =
     record {
-      serves = record { serves = tt; in_phase = tt };
+      serves = record { serves = tt; in_phase = tt; none = tt };
       answered = refl;
       fresh = fresh_at_first (lane_lines lane phases);
       faults = record { follow = tt; wait = tt };
@@ -252,4 +259,6 @@ serves_apart logged lane phases old new under h s =
           (serves_apart_on logged lane (lane_lines lane phases) h.more old h.apart faults s.serves);
       in_phase = subst (λ (l : Log). ServesLanePhases lane (lines_in phases) phases (printed l)) (sym h.log)
           (phases_apart logged lane phases h.more old under h.apart faults s.serves s.in_phase);
+      none = subst (λ (l : Log). NoneOnLane lane (lane_lines lane phases) l) (sym h.log)
+          (none_part logged lane [] [] (lane_lines lane phases) (λ at c e. absurd (cc)) h.more old (none_serves logged lane [] h.more old h.apart) s.none);
     }

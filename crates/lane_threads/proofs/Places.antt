@@ -68,3 +68,7 @@ module _ {X : Type 0} where
           let k : ℕ = i - length xs in
           subst (R (slice_index_or (xs ++ ys) i d)) (sym (get_or-append_right vs ws (length xs) i d same beyond))
           (subst (λ (x : X). R x (slice_index_or ws k d)) (sym (get_or-append_right xs ys (length xs) i d refl beyond)) (second k d (let n = length-append xs ys in omega arith)))
+
+  -- a list of two parts is as long as before where both are
+  pub length-parts : (xs ys vs ws : List X) → length vs ≡ length xs → length ws ≡ length ys → length (vs ++ ws) ≡ length (xs ++ ys)
+  length-parts xs ys vs ws first second = omega (arith, first, second, length-append xs ys, length-append vs ws)

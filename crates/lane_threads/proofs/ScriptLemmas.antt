@@ -21,7 +21,8 @@ use Rattle.script_serving.specs.Serves.{ServesLanes, ServesPhases, Serves}
 use Rattle.history_book.specs.declared.inner.Mark.TheVariants.{Shown, TaskFault, Kept}
 use Rattle.history_book.specs.Log.{Log, printed, lane_name, has_merging, begins_merge, FaultsFollow}
 use Rattle.lane_threads.specs.Walks.{NoneOf, GrowsByOthers, LinesRan}
-use Rattle.lane_threads.specs.Phases.{lines_in, lane_lines, ArePhasesInForm, ServesLane, ServesLanePhases, LaneServes, PhaseDone, HasRanPart, AreOfLanes, LanesEnd, IsHistoryOf}
+use Rattle.lane_threads.specs.Idle.{NoneIsTold}
+use Rattle.lane_threads.specs.Phases.{lines_in, lane_lines, ArePhasesInForm, ServesLane, ServesLanePhases, NoneOnLane, LaneServes, PhaseDone, HasRanPart, AreOfLanes, LanesEnd, IsHistoryOf}
 use Rattle.lane_threads.proofs.WalkLemmas.{lane_self, other_lane, on_other, off_this, answered_in, goes_apart}
 use Rattle.lane_threads.proofs.StayLemmas.{merging_there}
 use Rattle.lane_threads.proofs.FormLemmas.{phase_answered, lane_without}
@@ -92,12 +93,19 @@ phases_nothing : (lane : ℕ) (lines : List Line) (phases : List Phase) (past : 
 phases_nothing lane lines phases [] h = tt
 phases_nothing lane lines phases (e ∷ past) h = (on_other _ _ h.0, phases_nothing lane lines phases past h.1)
 
+none_nothing : (lane : ℕ) (lines : List Line) (log : Log) → NoneOf lane log → NoneOnLane lane lines log
+none_nothing lane lines [] h = tt
+none_nothing lane lines (Shown e ∷ log) h = (on_other _ _ (other_lane e.at.lane.0 lane h.0), none_nothing lane lines log h.1)
+none_nothing lane lines (TaskFault e ∷ log) h = none_nothing lane lines log h.1
+none_nothing lane lines (Kept i ∷ log) h = none_nothing lane lines log h.1
+
 none_at_all : (logged : Bool) (lane : ℕ) (phases : List Phase) (log : Log) → NoneOf lane log → FaultsFollow log → LaneServes logged lane phases log
 none_at_all logged lane phases log none faults =
     let nothing : NotOf lane (printed log) = no_entries lane log none faults in
     record {
       serves = serves_nothing logged lane (lane_lines lane phases) (printed log) nothing;
       in_phase = phases_nothing lane (lines_in phases) phases (printed log) nothing;
+      none = none_nothing lane (lane_lines lane phases) log none;
     }
 
 none_named : (lane : ℕ) (log : Log) → 8 < lane_name lane → AreOfLanes log → NoneOf lane log
@@ -113,6 +121,12 @@ lanes_together script (e ∷ past) h = (off_this _ _ (lane_self e.at.lane.0) (h 
 phases_together : (lines : List Line) (phases : List Phase) (past : Past) → ((lane : ℕ) → ServesLanePhases lane lines phases past) → ServesPhases lines phases past
 phases_together lines phases [] h = tt
 phases_together lines phases (e ∷ past) h = (off_this _ _ (lane_self e.at.lane.0) (h e.at.lane.0).0, phases_together lines phases past (λ lane. (h lane).1))
+
+none_together : (script : Script) (log : Log) → ((lane : ℕ) → NoneOnLane lane (lines_of_lane lane script) log) → NoneIsTold script log
+none_together script [] h = tt
+none_together script (Shown e ∷ log) h = (off_this _ _ (lane_self e.at.lane.0) (h e.at.lane.0).0, none_together script log (λ lane. (h lane).1))
+none_together script (TaskFault e ∷ log) h = none_together script log (λ lane. h lane)
+none_together script (Kept i ∷ log) h = none_together script log (λ lane. h lane)
 
 -- where each lane serves, every line has its reply and nothing is left to replay, the script is served
 pub serves_together : (script : Script) (log : Log) (h : History) → IsHistoryOf script.nodes log h → ((lane : ℕ) → LaneServes script.log lane script.phases log)
@@ -145,3 +159,7 @@ all_replied script log ends =
 pub script_served : (script : Script) (log : Log) (h : History) → ArePhasesInForm script.phases → LanesEnd script log → IsHistoryOf script.nodes log h → Serves script h
 script_served script log h form ends is =
     serves_together script log h is (every_lane script log form ends) (all_replied script log ends) ends.settled.replayed
+
+-- and each publish of it that is answered `none` has nothing to take
+pub script_none : (script : Script) (log : Log) → ArePhasesInForm script.phases → LanesEnd script log → NoneIsTold script log
+script_none script log form ends = none_together script log (λ lane. (every_lane script log form ends lane).none)

@@ -1,6 +1,7 @@
 -- A lane's part of the history: what others leave alone, what a call adds, and how parts are joined.
 use Rattle.std.proofs.Common.{◌≡◌, ◌≢◌, ◌&&◌, ◌==◌, ℕ, Bool, true, false, List, [], ◌∷◌, ◌++◌, Some, refl, ap, ◌∙◌, sym, subst, arith, inl, inr, if◌then◌else◌, append_assoc}
 use Rattle.std.proofs.lemmas.Bool.{and_parts, and_from, or_right, true≢false, false≢true}
+use Rattle.std.proofs.lemmas.List.{append_cancel_right}
 use Rattle.std.proofs.lemmas.Bool.Decides.{nat_tests, eqb_tells}
 use Rattle.nrt_base.specs.declared.numbers.At.{At}
 use Rattle.documents.specs.declared.operation.Op.{Op}
@@ -18,7 +19,8 @@ use Rattle.script_serving.specs.Serves.{Fits, FitsTurn, SuitsFault}
 use Rattle.history_book.specs.declared.inner.Mark.TheVariants.{Shown, TaskFault, Kept}
 use Rattle.history_book.specs.Log.{Log, printed, lane_name, FaultsFollow}
 use Rattle.lane_threads.specs.Owes.{SuitsOrFault, SuitsOrReplays, AddsEntries, GoesByLine, AddsByTask, GoesByTask, FaultsWait, FaultsFit}
-use Rattle.lane_threads.specs.Walks.{OnLane, NoneOf, ServesSince, Includes, GrowsByLane, GrowsByOthers, LineGoes}
+use Rattle.lane_threads.specs.Idle.{NoneIsSo, NoneAdds, TellsNone}
+use Rattle.lane_threads.specs.Walks.{OnLane, NoneOf, FitsLog, ServesSince, Includes, GrowsByLane, GrowsByOthers, LineGoes}
 
 -- ---- of one lane, or of another
 
@@ -103,17 +105,17 @@ fits_of [] lines command at past e s h = turn_of lines command at past e s h
 fits_of (op ∷ ops) lines command at past e s h = s
 
 adds_serves : (logged : Bool) (lines : List Line) (command : LineCommand) (at : At) (more old : Log) → command_at lines at ≡ Some command
-    → earlier_answered lines at (printed old) ≡ true → AddsEntries logged command at more old → ServesSince logged at.lane.0 lines more old
-adds_serves logged lines command at [] old found early h = tt
-adds_serves logged lines command at (Shown e ∷ more) old found early h =
+    → earlier_answered lines at (printed old) ≡ true → AddsEntries logged command at more old → NoneAdds command more old → ServesSince logged at.lane.0 lines more old
+adds_serves logged lines command at [] old found early h none = tt
+adds_serves logged lines command at (Shown e ∷ more) old found early h none =
     let past : Past = printed (more ++ old) in
     let fits : Fits (due logged past) lines past at (command_at lines at) e.event =
-    rw found (fits_of (due logged past) lines command at past e.event h.1 (earlier_stays lines at more old early)) in (
-      on_this _ _ (subst (λ (a : At). Fits (due logged past) lines past a (command_at lines a) e.event) (sym h.0) fits),
-      adds_serves logged lines command at more old found early h.2,
-    )
-adds_serves logged lines command at (TaskFault e ∷ more) old found early h = adds_serves logged lines command at more old found early h.2
-adds_serves logged lines command at (Kept i ∷ more) old found early h = adds_serves logged lines command at more old found early h.1
+    rw found (fits_of (due logged past) lines command at past e.event h.1 (earlier_stays lines at more old early)) in
+    let here : NoneIsSo (command_at lines e.at) (more ++ old) e.event = λ asks. none.0 (sym (ap (command_at lines) h.0 ∙ found) ∙ asks) in
+    let owed : FitsLog logged lines (more ++ old) e = (subst (λ (a : At). Fits (due logged past) lines past a (command_at lines a) e.event) (sym h.0) fits, here) in
+    (on_this _ _ owed, adds_serves logged lines command at more old found early h.2 none.1)
+adds_serves logged lines command at (TaskFault e ∷ more) old found early h none = adds_serves logged lines command at more old found early h.2 none
+adds_serves logged lines command at (Kept i ∷ more) old found early h none = adds_serves logged lines command at more old found early h.1 none
 
 adds_follow : (logged : Bool) (command : LineCommand) (at : At) (more old : Log) → FaultsFollow old → AddsEntries logged command at more old → FaultsFollow (more ++ old)
 adds_follow logged command at [] old f h = f
@@ -164,7 +166,7 @@ pub since_append : (logged : Bool) (lane : ℕ) (lines : List Line) (m n old : L
     → ServesSince logged lane lines n old → ServesSince logged lane lines (m ++ n) old
 since_append logged lane lines [] n old h k = k
 since_append logged lane lines (Shown e ∷ m) n old h k = (
-  subst (λ (l : Log). OnLane (e.at.lane.0 == lane) (Fits (due logged (printed l)) lines (printed l) e.at (command_at lines e.at) e.event)) (sym (append_assoc m n old)) h.0,
+  subst (λ (l : Log). OnLane (e.at.lane.0 == lane) (FitsLog logged lines l e)) (sym (append_assoc m n old)) h.0,
   since_append logged lane lines m n old h.1 k,
 )
 since_append logged lane lines (TaskFault e ∷ m) n old h k = since_append logged lane lines m n old h k
@@ -185,14 +187,19 @@ pub apart_goes : (logged : Bool) (command : LineCommand) (at : At) (old new : Lo
 apart_goes logged command at old new h =
     record { more = h.more; log = h.log; faults = h.faults; serves = λ lines found early. none_serves logged at.lane.0 lines h.more old h.apart }
 
-pub call_goes : (logged : Bool) (command : LineCommand) (at : At) (old new : Log) → FaultsFit logged old → GoesByLine logged command at old new
+pub call_faults : (logged : Bool) (command : LineCommand) (at : At) (old new : Log) → FaultsFit logged old → GoesByLine logged command at old new → FaultsFit logged new
+call_faults logged command at old new faults h = subst (FaultsFit logged) (sym h.log) (adds_faults logged command at h.more old faults h.adds)
+
+pub call_goes : (logged : Bool) (command : LineCommand) (at : At) (old new : Log) → FaultsFit logged old → GoesByLine logged command at old new → TellsNone command old new
     → LineGoes logged command at old new
-call_goes logged command at old new faults h =
+call_goes logged command at old new faults h tells =
+    let same : tells.more ≡ h.more = append_cancel_right tells.more h.more old (sym tells.log ∙ h.log) in
+    let none : NoneAdds command h.more old = subst (λ (more : Log). NoneAdds command more old) same tells.none in
     record {
       more = h.more;
       log = h.log;
-      faults = subst (FaultsFit logged) (sym h.log) (adds_faults logged command at h.more old faults h.adds);
-      serves = λ lines found early. adds_serves logged lines command at h.more old found early h.adds;
+      faults = call_faults logged command at old new faults h;
+      serves = λ lines found early. adds_serves logged lines command at h.more old found early h.adds none;
     }
 
 pub goes_then : (logged : Bool) (command : LineCommand) (at : At) (old mid new : Log) → LineGoes logged command at old mid → LineGoes logged command at mid new

@@ -1,4 +1,5 @@
 pub mod Calls
+pub mod Idle
 pub mod Lanes
 pub mod Owes
 pub mod Parts

@@ -10,8 +10,10 @@ use Rattle.script_serving.specs.Lines.{lines_of_phase, lines_under, command_at, 
 use Rattle.script_serving.specs.Form.{is_phase, are_ascending}
 use Rattle.script_serving.specs.Replays.{due}
 use Rattle.script_serving.specs.Serves.{Fits, is_merge_fault}
+use Rattle.history_book.specs.declared.inner.Mark.TheVariants.{Shown}
 use Rattle.history_book.specs.Log.{Log, printed, name_of}
 use Rattle.lane_threads.specs.Owes.{FaultsFit, IsSettledLog}
+use Rattle.lane_threads.specs.Idle.{NoneIsSo}
 use Rattle.lane_threads.specs.Walks.{OnLane, Includes, GrowsByLane, GrowsByOthers, AreUnbegun}
 
 -- the lines of phases
@@ -40,10 +42,17 @@ ServesLanePhases lane lines phases (e ∷ past) =
     OnLane (e.at.lane.0 == lane) ((is_merge_fault (command_at lines e.at) e.event || earlier_phases_answered phases e.at past) ≡ true)
     × ServesLanePhases lane lines phases past
 
+-- each publish of the lane that is answered `none` has no cut-over behind it since the last point
+abbrev pub NoneOnLane : ℕ → List Line → Log → Type 0
+NoneOnLane lane lines [] = ⊤
+NoneOnLane lane lines (Shown e ∷ log) = OnLane (e.at.lane.0 == lane) (NoneIsSo (command_at lines e.at) log e.event) × NoneOnLane lane lines log
+NoneOnLane lane lines (m ∷ log) = NoneOnLane lane lines log
+
 -- the lane serves the phases so far
 pub record LaneServes (logged : Bool) (lane : ℕ) (phases : List Phase) (log : Log) : Type 0 where
   pub serves : ServesLane logged lane (lane_lines lane phases) (printed log)
   pub in_phase : ServesLanePhases lane (lines_in phases) phases (printed log)
+  pub none : NoneOnLane lane (lane_lines lane phases) log
 
 -- the lane serves the phases so far, the first of them are done, and of the others no line of the lane has an entry
 pub record LaneReady (logged : Bool) (lane : ℕ) (phases before rest : List Phase) (log : Log) : Type 0 where

@@ -2,6 +2,7 @@
 use Rattle.std.specs.Prelude.{ℕ, ◌≡◌, ◌≢◌, List, [], ◌∷◌, ◌++◌, Bool, true, false, ◌==◌, ⊤, IsTrue, take, drop, Some}
 use Rattle.std.specs.List.{AllByRecursion, list_all}
 use Rattle.nrt_base.specs.declared.numbers.At.{At}
+use Rattle.history_rules.specs.declared.entry.Entry.{Entry}
 use Rattle.history_rules.specs.Nodes.{Past}
 use Rattle.history_rules.specs.Lines.{is_answered, last_of_line, start_entry, before_start, entries_of_line}
 use Rattle.script_serving.specs.declared.script.Line.{Line}
@@ -13,6 +14,7 @@ use Rattle.script_serving.specs.Serves.{Fits}
 use Rattle.history_book.specs.declared.inner.Mark.TheVariants.{Shown, TaskFault, Kept}
 use Rattle.history_book.specs.Log.{Log, printed, name_of, lane_name}
 use Rattle.lane_threads.specs.Owes.{FaultsFit}
+use Rattle.lane_threads.specs.Idle.{NoneIsSo}
 
 -- this is owed of an entry that is the lane's
 abbrev pub OnLane : Bool → Type 0 → Type 0
@@ -23,12 +25,16 @@ OnLane false P = ⊤
 abbrev pub NoneOf : ℕ → Log → Type 0
 NoneOf lane more = AllByRecursion (λ m. name_of m ≢ lane_name lane) more
 
--- each entry of the lane among the newer ones is one that its line among these asks for, in the line's turn or in a replay
+-- the entry is one that its line among these asks for, in the line's turn or in a replay; where it answers `none` to a publish, that is so
+abbrev pub FitsLog : Bool → List Line → Log → Entry → Type 0
+FitsLog logged lines log e =
+    Fits (due logged (printed log)) lines (printed log) e.at (command_at lines e.at) e.event × NoneIsSo (command_at lines e.at) log e.event
+
+-- each entry of the lane among the newer ones is one that its line among these asks for
 abbrev pub ServesSince : Bool → ℕ → List Line → Log → Log → Type 0
 ServesSince logged lane lines [] old = ⊤
 ServesSince logged lane lines (Shown e ∷ more) old =
-    OnLane (e.at.lane.0 == lane) (Fits (due logged (printed (more ++ old))) lines (printed (more ++ old)) e.at (command_at lines e.at) e.event)
-    × ServesSince logged lane lines more old
+    OnLane (e.at.lane.0 == lane) (FitsLog logged lines (more ++ old) e) × ServesSince logged lane lines more old
 ServesSince logged lane lines (TaskFault e ∷ more) old = ServesSince logged lane lines more old
 ServesSince logged lane lines (Kept i ∷ more) old = ServesSince logged lane lines more old
 

@@ -7,6 +7,7 @@ ghost use Rattle.history_rules.specs.Lines.{entries_of_line};
 ghost use Rattle.script_serving.specs.Form.{is_phase, IsInForm};
 ghost use Rattle.script_serving.specs.Lines.{lines_under};
 ghost use Rattle.script_serving.specs.Serves.{Serves};
+ghost use Rattle.lane_threads.specs.Idle.{TellsNone, NoneIsTold};
 ghost use Rattle.lane_threads.specs.Owes.{GoesByLine, GoesByTask, FaultsFit};
 ghost use Rattle.lane_threads.specs.Walks.{GrowsByLane, GrowsByOthers, LineStays, LineGoes, LineRan, StillFresh, AreUnbegun, ArePart, Going, LinesRan};
 ghost use Rattle.lane_threads.specs.Phases.{ArePhasesInForm, LaneServes, LaneReady, LaneReadyAt, PhaseDone, HasRanPart, LanesEnd, IsHistoryOf};
@@ -28,6 +29,7 @@ pub fn call_takes_its_line_on(
 )
     requires faults { FaultsFit logged old.now }
     requires goes { GoesByLine logged command.now at old.now new.now }
+    requires none { TellsNone command.now old.now new.now }
     ensures { LineGoes logged command.now at old.now new.now }
 {}
 
@@ -223,10 +225,12 @@ pub fn phases_are_in_form(script: &Script)
     ensures { ArePhasesInForm script.now.phases }
 {}
 
-/// Where each of the eight lanes has done all phases, and nobody else appended a printed entry, the script is served.
+/// Where each of the eight lanes has done all phases, and nobody else appended a printed entry, the script is served, and each publish
+/// that is answered `none` has nothing to take.
 pub fn lanes_serve_the_script(script: &Script, log: &[Mark], h: &History)
     requires form { IsInForm script.now }
     requires ends { LanesEnd script.now log.now }
     requires history { IsHistoryOf script.now.nodes log.now h.now }
-    ensures { Serves script.now h.now }
+    ensures serves { Serves script.now h.now }
+    ensures none { NoneIsTold script.now log.now }
 {}

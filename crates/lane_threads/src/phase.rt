@@ -1,7 +1,7 @@
 //! A phase: all lanes run their parts at once, with the workers beside them, and then each hears of what all did.
 
-ghost use Rattle.std.specs.Prelude.{◌≡◌, ℕ, ◌<◌, ◌≤◌, false, IsTrue, OnOk, length};
-ghost use Rattle.std.specs.Fork.{AcceptsEach, ChangesEach};
+ghost use Rattle.std.specs.Prelude.{◌≡◌, ◌<◌, false, IsTrue, OnOk, length};
+ghost use Rattle.std.specs.Fork.{AcceptsEach};
 ghost use denote.Param.Send.{IsSync};
 ghost use Rattle.nrt_base.specs.contracts.list.List as list;
 ghost use Rattle.script_serving.specs.contracts.script.Phase as script_phase;
@@ -122,27 +122,6 @@ fn beside<R: Threads + Sync, T: Send, F: Fn(usize, &mut T) + Sync>(
     join_mut(rt, &mut front, &mut back);
 }
 
-// The same, and no thread is made for a second slice that is empty.
-fn at_both<R: Threads + Sync, T: Send, F: Fn(usize, &mut T) + Sync>(
-    rt: &R,
-    f: &F,
-    threads: usize,
-    first: &mut [T],
-    last: &mut [T],
-)
-    requires threads { 0 < threads }
-    requires first { AcceptsEach F.Fn f.now first.old }
-    requires last { AcceptsEach F.Fn f.now last.old }
-    ensures first { ChangesEach F.Fn f.now first.old first.new }
-    ensures last { ChangesEach F.Fn f.now last.old last.new }
-{
-    if last.is_empty() {
-        for_each_mut(rt, first, threads, f);
-        return;
-    }
-    beside(rt, f, threads, first, last);
-}
-
 // Lanes and workers take their turns in a phase at once. No lane stands behind a worker in a thread, since a worker ends when all lanes have
 // ended. Where there are no workers and at most one lane has lines, no thread is made.
 fn take_turns<
@@ -178,26 +157,12 @@ fn take_turns<
         ensures { TakesTurn (Q.set_up runner.entry.now).log lock.entry.now
             (P.phase phase.entry.now) lane.old lane.new }
     { take_turn(rt, lock, halt, runner, lane, phase.as_phase()) };
-    at_both(rt, &turn, threads_for(phase.as_phase()), lanes, workers);
-}
-
-// All take their turns in a phase.
-fn run_parts<
-    R: Threads + Wait + Sync,
-    T: LaneRun + Send,
-    Q: RunsLines<T> + Sync,
-    P: AsPhase + Sync,
->(rt: &R, lock: &HistLock<T>, halt: &Halt, runner: &Q, crew: &mut [Lane<T>], phase: &P)
-    requires phase { IsTrue (is_phase (P.phase phase.now)) }
-    requires lanes { 8 ≤ length crew.old }
-    requires may { EachLane (MayRunPart (Q.set_up runner.now).log lock.now (Q.runs runner.now)
-        (P.phase phase.now)) crew.old }
-    ensures ran { EachChange (TakesTurn (Q.set_up runner.now).log lock.now (P.phase phase.now))
-        crew.old crew.new }
-    ensures length { length crew.new ≡ length crew.old }
-{
-    let (lanes, workers) = crew.split_at_mut(LANES);
-    take_turns(rt, lock, halt, runner, lanes, workers, phase);
+    let threads = threads_for(phase.as_phase());
+    if workers.is_empty() {
+        for_each_mut(rt, lanes, threads, &turn);
+        return;
+    }
+    beside(rt, &turn, threads, lanes, workers);
 }
 
 // The first lane does the tasks that are left behind a phase.
@@ -237,7 +202,8 @@ pub fn run_phase<R: Threads + Wait + Sync, T: LaneRun + Send, Q: RunsLines<T> + 
 {
     phase_is_shared();
     let halt = Halt::new();
-    run_parts(rt, lock, &halt, runner, lanes, phase);
+    let (first, workers) = lanes.split_at_mut(LANES);
+    take_turns(rt, lock, &halt, runner, first, workers, phase);
     if any_failed(lanes) {
         return Err(AllocError);
     }

@@ -1,79 +1,28 @@
 //! A whole script: phase after phase.
 
-ghost use Rattle.std.specs.Prelude.{◌≡◌, [], true, false, reverse, IsTrue, OnOk, IfOk, length};
+ghost use Rattle.std.specs.Prelude.{◌≡◌, [], true, false, reverse, IsTrue, IfOk};
 ghost use Rattle.history_rules.specs.declared.entry.History.{History};
 ghost use Rattle.script_serving.specs.Form.{IsInForm};
 ghost use Rattle.script_serving.specs.Lines.{lines_of};
 ghost use Rattle.script_serving.specs.Serves.{Serves};
 ghost use Rattle.history_book.specs.Log.{name_of};
+ghost use Rattle.lane_threads.specs.Idle.{NoneIsTold};
 ghost use Rattle.lane_threads.specs.Owes.{IsSettledLog};
-ghost use Rattle.lane_threads.specs.Phases.{ArePhasesInForm, lines_in, IsHistoryOf};
+ghost use Rattle.lane_threads.specs.Phases.{IsHistoryOf};
 ghost use Rattle.lane_threads.specs.Parts.{all_run};
-ghost use Rattle.lane_threads.specs.Lanes.{ArePhasesDone, setup_of};
+ghost use Rattle.lane_threads.specs.Lanes.{setup_of};
 
-use crate::lane::{Lane, RunsLines};
+use crate::lane::RunsLines;
 use crate::phase::run_phase;
 use crate::run::{LaneRun, Setup};
 use crate::seating::{disband, make_crew};
 use crate::section::is_running;
-use hist_lock::{HistLock, LaneSeat};
+use hist_lock::HistLock;
 use nrt_base::NoMemory;
-use script_serving::{Phase, Script};
+use script_serving::Script;
 use std::alloc::{AllocError, Global};
 use std::sync::Wait;
 use std::thread::Threads;
-
-// Runs phase after phase.
-fn run_phases<R: Threads + Wait + Sync, T: LaneRun + Send, Q: RunsLines<T> + Sync>(
-    rt: &R,
-    lock: &HistLock<T>,
-    runner: &Q,
-    logged: bool,
-    hub: &mut LaneSeat<T>,
-    lanes: &mut [Lane<T>],
-    phases: &[Phase],
-) -> Result<(), NoMemory>
-    requires form { ArePhasesInForm phases.now }
-    requires logged { (Q.set_up runner.now).log ≡ logged }
-    requires runs { IsTrue (all_run (Q.runs runner.now) (lines_in phases.now)) }
-    requires begun { ArePhasesDone logged lock.now (length lanes.old) phases.now 0
-        hub.old lanes.old }
-    ensures { OnOk result (ArePhasesDone logged lock.now (length lanes.old) phases.now
-        (length phases.now) hub.new lanes.new) }
-{
-    for phase in phases {
-        run_phase(rt, lock, runner, logged, hub, lanes, phase)?;
-    }
-    Ok(())
-}
-
-// Runs a script with lanes that are owned.
-fn run_all<R: Threads + Wait + Sync, T: LaneRun + Send, Q: RunsLines<T> + Sync>(
-    rt: &R,
-    lock: &HistLock<T>,
-    runner: &Q,
-    hub: &mut LaneSeat<T>,
-    lanes: &mut Vec<Lane<T>>,
-    script: &Script,
-) -> Result<(), NoMemory>
-    requires form { IsInForm script.now }
-    requires setup { Q.set_up runner.now ≡ setup_of script.now }
-    requires runs { IsTrue (all_run (Q.runs runner.now) (lines_of script.now)) }
-    requires begun { ArePhasesDone script.now.log lock.now (length lanes.old.items)
-        script.now.phases 0 hub.old lanes.old.items }
-    ensures { OnOk result (ArePhasesDone script.now.log lock.now (length lanes.old.items)
-        script.now.phases (length script.now.phases) hub.new lanes.new.items) }
-{
-    run_phases(
-        rt,
-        lock,
-        runner,
-        script.log,
-        hub,
-        lanes.as_mut_slice(),
-        script.phases.as_slice(),
-    )
-}
 
 // Each entry names the seat of its lane, or none. A law.
 fn names_are_seats<T: LaneRun>()
@@ -101,7 +50,8 @@ fn is_whole<T: LaneRun>(run: &T, script: &Script) -> bool
 /// Runs a script on a new value, by eight lanes and the script's workers in threads of their own, and answers the value as the script
 /// leaves it.
 ///
-/// Whatever the threads do in between, the history that is left serves the script. It fails only when out of memory.
+/// Whatever the threads do in between, the history that is left serves the script, and where a publish was answered `none` no merge was
+/// cut over since the last point. It fails only when out of memory.
 pub fn run_script<R: Threads + Wait + Sync, T: LaneRun + Send + Drop, Q: RunsLines<T> + Sync>(
     rt: &R,
     alloc: Global,
@@ -117,12 +67,23 @@ pub fn run_script<R: Threads + Wait + Sync, T: LaneRun + Send + Drop, Q: RunsLin
     ensures setup { IfOk result (λ left. T.set_up left ≡ setup_of script.now) }
     ensures serves { IfOk result (λ left. (h : History)
         → IsHistoryOf script.now.nodes (T.log left) h → Serves script.now h) }
+    ensures none { IfOk result (λ left. NoneIsTold script.now (T.log left)) }
 {
     names_are_seats::<T>();
     log_is_history(&run);
     let (lock, mut hub) = HistLock::new(alloc, run)?;
     let mut lanes = make_crew(alloc, &lock, &mut hub, script.workers)?;
-    run_all(rt, &lock, runner, &mut hub, &mut lanes, script)?;
+    for phase in script.phases.as_slice() {
+        run_phase(
+            rt,
+            &lock,
+            runner,
+            script.log,
+            &mut hub,
+            lanes.as_mut_slice(),
+            phase,
+        )?;
+    }
     disband(lanes, &lock, &mut hub);
     let left = lock.close(hub);
     log_is_history(&left);

@@ -1,4 +1,5 @@
-//! What a message says of a refused line of a script: which word is wrong, and what is wanted.
+//! What a message says of a refused line of a script: which word is wrong, and what is wanted. It stands apart from the grammar, whose
+//! contracts say nothing of messages.
 #![tactic(auto)]
 
 mod advise;

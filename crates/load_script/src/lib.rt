@@ -1,4 +1,4 @@
-//! The generated script, the summary of a run of it, and what every run of it finds.
+//! The generated script, the summary of a run of it, and what every run of it finds: what `nrt load` has beside a run.
 #![tactic(auto)]
 
 mod commands;

@@ -1,4 +1,5 @@
-//! Tests of a primary and of replicas over a directory in memory.
+//! Tests of a primary and of replicas over a directory in memory. They are a crate of their own, so that none that they test is proved
+//! twice.
 #![tactic(auto)]
 
 #[cfg(test)]

@@ -1,12 +1,12 @@
 -- The answer to a stream is the answer to its bytes.
-use Rattle.std.proofs.Common.{◌≡◌, ℕ, ◌+◌, ◌<◌, ◌≤◌, List, [], ◌++◌, length, refl, sym, ap, ◌∙◌, arith, Option, inl, inr}
+use Rattle.std.proofs.Common.{◌≡◌, ℕ, ◌+◌, ◌<◌, List, [], ◌++◌, length, sym, ap, ◌∙◌, arith, Option, inl, inr}
 use Rattle.std.specs.Prelude.{◌⊎◌}
 use Rattle.std.proofs.lemmas.List.{length-append}
 use Rattle.wire_frames.specs.declared.message.Message.{Message}
 use Rattle.wire_frames.specs.declared.message.WireFault.{WireFault}
-use Rattle.wire_frames.specs.Streams.{AreMessagesOf, IsUnfinished, IsStreamFault}
+use Rattle.wire_frames.specs.Streams.{AreMessagesOf}
 use Rattle.wire_frames.proofs.StreamLaws.{one_reading, one_fault, never_faulty, are_messages, nothing_unfinished}
-use Rattle.wire_frames.specs.Runs.{Gave, GaveMessages, IsTextOf, GaveFault, AreUnfinished, GaveFront, GaveMore, GaveBadStream, wire_number}
+use Rattle.wire_frames.specs.Runs.{Gave, IsTextOf, AreUnfinished, GaveMore, GaveBadStream, wire_number}
 use Rattle.nrt_main.specs.Headline.{TakesWithin, TakesMore}
 use Rattle.nrt_main.specs.declared.status.Status.{Status}
 use Rattle.nrt_main.specs.declared.status.Status.TheVariants.{Done, WriteFault, BadStream}

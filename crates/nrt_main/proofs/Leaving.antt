@@ -1,23 +1,22 @@
 -- The cluster that a run leaves, and the text that was written of it.
-use Rattle.std.proofs.Common.{◌≡◌, ℕ, List, Option, false, refl, ap, ◌∙◌, sym, subst, take, reverse}
+use Rattle.std.proofs.Common.{◌≡◌, ℕ, List, Option, false, ap, ◌∙◌, sym, subst, take, reverse}
 use Rattle.std.specs.List.{flat_map}
 use Rattle.std.specs.Io.KnownBytes.{Appends}
 use Rattle.std.proofs.lemmas.List.{reverse-reverse}
 use Rattle.history_rules.specs.declared.entry.Entry.{Entry}
 use Rattle.history_rules.specs.Legal.{IsLegal}
 use Rattle.history_book.specs.Log.{printed}
-use Rattle.history_book.specs.Told.{IsTold}
-use Rattle.report_text.specs.Texts.{text_of_entry, text_of}
+use Rattle.report_text.specs.Texts.{text_of_entry}
 use Rattle.script_serving.specs.declared.script.Script.{Script}
 use Rattle.script_text.specs.Grammar.{SpellsScript}
 use Rattle.script_serving.specs.Serves.{Serves}
 use Rattle.cluster_state.specs.Run.{Run}
-use Rattle.cluster_run.specs.Running.{history_of}
+use Rattle.cluster_run.specs.Running.{history_of, TellsInner}
 use Rattle.nrt_main.specs.Headline.{HasRun, ReadWhole, Answers, AnswersInPart, LeavesRun, LeavesRunInPart}
 use Rattle.nrt_main.specs.TopCalls.{IsReport, LeavesText, LeavesFront}
 
 -- the text of the entries of a cluster is that of its history
-pub report_is : (script : Script) (r : Run) (entries : List Entry) (text : List ℕ) → r.ended ≡ false → IsLegal (history_of r) → Serves script (history_of r) → IsTold r.log
+pub report_is : (script : Script) (r : Run) (entries : List Entry) (text : List ℕ) → r.ended ≡ false → IsLegal (history_of r) → Serves script (history_of r) → TellsInner script r.log
     → reverse entries ≡ printed r.log → text ≡ flat_map text_of_entry entries → IsReport script r text
 report_is script r entries text running legal serves told is spelled =
     let same : entries ≡ reverse (printed r.log) = sym (reverse-reverse entries) ∙ ap (λ (es : List Entry). reverse es) is in

@@ -2,6 +2,8 @@ mod Writes
 mod JudgeAnswers
 mod Leaving
 mod Loads
+mod NodeTextLaws
+mod Numbers
 mod AnswerLaws
 mod FrameAnswers
 mod CheckAnswers

@@ -4,7 +4,6 @@ use Rattle.std.specs.Io.KnownBytes.{Consumes, IsAtEnd, Appends}
 use Rattle.nrt_base.specs.declared.numbers.LineNo.{LineNo}
 use Rattle.history_rules.specs.declared.entry.History.{History}
 use Rattle.history_rules.specs.Legal.{IsLegal}
-use Rattle.history_book.specs.Told.{IsTold}
 use Rattle.report_text.specs.Texts.{text_of}
 use Rattle.script_text.specs.declared.fault.LineFault.{LineFault}
 use Rattle.script_serving.specs.declared.script.Script.{Script}
@@ -12,7 +11,7 @@ use Rattle.script_serving.specs.Serves.{Serves}
 use Rattle.script_text.specs.Grammar.{SpellsScript}
 use Rattle.script_text.specs.Refused.{IsFirstRefused}
 use Rattle.cluster_state.specs.Run.{Run}
-use Rattle.cluster_run.specs.Running.{history_of}
+use Rattle.cluster_run.specs.Running.{history_of, TellsInner}
 use Rattle.nrt_main.specs.declared.status.Status.{Status}
 use Rattle.nrt_main.specs.declared.status.Status.TheVariants.{Done, BadScript, WriteFault}
 
@@ -34,14 +33,14 @@ pub record Answers (bytes : List ℕ) (before after : Option (List ℕ)) : Type 
   pub written : Appends before after (text_of history)
 
 -- the cluster has run the script that the bytes are: it has not ended, its history is legal and serves the script, and each printed
--- entry tells what is so of inner work
+-- entry tells what is so of inner work, an answer `none` to a publish too
 pub record HasRun (bytes : List ℕ) (r : Run) : Type 0 where
   pub script : Script
   pub grammar : SpellsScript bytes script
   pub running : r.ended ≡ false
   pub legal : IsLegal (history_of r)
   pub serves : Serves script (history_of r)
-  pub told : IsTold r.log
+  pub told : TellsInner script r.log
 
 -- the source was read to its end, and gave these bytes
 pub record ReadWhole (before after : Option (List ℕ)) (bytes : List ℕ) : Type 0 where

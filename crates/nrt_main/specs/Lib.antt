@@ -3,6 +3,8 @@ pub mod Frames
 pub mod Check
 pub mod Complete
 pub mod Load
+pub mod NodeTexts
+pub mod Numbered
 pub mod Judge
 pub mod Pictures
 pub mod Rows

@@ -1,34 +1,31 @@
 -- What the program promises of a load.
-use Rattle.std.specs.Prelude.{ℕ, ◌≡◌, ◌≤◌, ◌⊎◌, List, [], ◌∷◌, take, codes, false, Option}
-use Rattle.std.specs.Fmt.{decimal}
+use Rattle.std.specs.Prelude.{ℕ, ◌≡◌, ◌⊎◌, List, take, codes, false, Option}
 use Rattle.std.specs.Io.KnownBytes.{Appends}
 use Rattle.history_rules.specs.Legal.{IsLegal}
-use Rattle.history_book.specs.Told.{IsTold}
 use Rattle.script_serving.specs.Serves.{Serves}
 use Rattle.load_script.specs.Generated.{generated_script}
 use Rattle.load_script.specs.Totals.{totals_of, summary_text}
 use Rattle.cluster_state.specs.Run.{Run}
-use Rattle.cluster_run.specs.Running.{history_of}
+use Rattle.cluster_run.specs.Running.{history_of, TellsInner}
+use Rattle.nrt_main.specs.Numbered.{AreNameAndNumber, AreNameAndSome}
 use Rattle.nrt_main.specs.declared.status.Status.{Status}
 use Rattle.nrt_main.specs.declared.status.Status.TheVariants.{Done, WriteFault}
 
--- the words are `load` and this number, from 1 to 10,000, in decimal digits without a leading zero
-pub record IsLoadOf (words : List (List ℕ)) (n : ℕ) : Type 0 where
-  pub is : words ≡ codes "load" ∷ decimal n ∷ []
-  pub low : 1 ≤ n
-  pub high : n ≤ 10000
+-- the words are `load` and this number, from 1 to 10,000
+abbrev pub IsLoadOf : List (List ℕ) → ℕ → Type 0
+IsLoadOf = AreNameAndNumber (codes "load") 10000
 
 -- the row of words: `load` and such a number
 abbrev pub IsLoad : List (List ℕ) → Type 0
-IsLoad words = (n : ℕ) × IsLoadOf words n
+IsLoad = AreNameAndSome (codes "load") 10000
 
 -- the cluster has run the script of n documents: it has not ended, its history is legal and serves the script, and each printed entry
--- tells what is so of inner work
+-- tells what is so of inner work, an answer `none` to a publish too
 pub record HasLoaded (n : ℕ) (r : Run) : Type 0 where
   pub running : r.ended ≡ false
   pub legal : IsLegal (history_of r)
   pub serves : Serves (generated_script n) (history_of r)
-  pub told : IsTold r.log
+  pub told : TellsInner (generated_script n) r.log
 
 -- the cluster has run the script of n documents, and the text is its summary
 pub record IsSummary (n : ℕ) (r : Run) (text : List ℕ) : Type 0 where

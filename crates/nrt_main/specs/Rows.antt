@@ -6,7 +6,8 @@ use Rattle.nrt_main.specs.Check.{IsCheck}
 use Rattle.nrt_main.specs.Load.{IsLoad}
 use Rattle.nrt_main.specs.Judge.{IsJudge}
 use Rattle.nrt_main.specs.Pictures.{IsShowing}
+use Rattle.nrt_main.specs.NodeTexts.{IsImaging, IsSending}
 
--- the words are a row of the table: `run`, `frames`, `check`, `load N`, `judge`, `picture` or `picture svg`
+-- the words are a row of the table: `run`, `frames`, `check`, `load N`, `judge`, `picture`, `picture svg`, `image N` or `send N`
 abbrev pub IsKnownRow : List (List ℕ) → Type 0
-IsKnownRow words = IsRun words ⊎ (IsFrames words ⊎ (IsCheck words ⊎ (IsLoad words ⊎ (IsJudge words ⊎ IsShowing words))))
+IsKnownRow words = IsRun words ⊎ (IsFrames words ⊎ (IsCheck words ⊎ (IsLoad words ⊎ (IsJudge words ⊎ (IsShowing words ⊎ (IsImaging words ⊎ IsSending words))))))

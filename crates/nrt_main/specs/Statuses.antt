@@ -3,7 +3,7 @@ use Rattle.std.specs.Prelude.{ℕ}
 use Rattle.script_text.specs.declared.fault.LineFault.{LineFault}
 use Rattle.script_text.specs.declared.fault.LineFault.TheVariants.{NoNodes, Word, Count, Range, Query, Text}
 use Rattle.nrt_main.specs.declared.status.Status.{Status}
-use Rattle.nrt_main.specs.declared.status.Status.TheVariants.{Done, Usage, BadScript, ReadFault, WriteFault, Memory, TooLarge, BadIndex, BadImage, BadStream, BadReport}
+use Rattle.nrt_main.specs.declared.status.Status.TheVariants.{Done, Usage, BadScript, ReadFault, WriteFault, Memory, TooLarge, BadIndex, BadImage, BadStream, BadReport, NoSuchNode, NoCopy}
 
 -- the exit status of an answer
 abbrev pub exit_status : Status → ℕ
@@ -18,6 +18,8 @@ exit_status BadIndex = 8
 exit_status BadImage = 9
 exit_status (BadStream k) = 10
 exit_status BadReport = 11
+exit_status NoSuchNode = 12
+exit_status NoCopy = 13
 
 -- the number of the cause for which a line is refused
 abbrev pub cause_number : LineFault → ℕ

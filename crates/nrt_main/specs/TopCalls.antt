@@ -2,7 +2,6 @@
 use Rattle.std.specs.Prelude.{ℕ, ◌≡◌, List, take, false, Option, ⊤}
 use Rattle.std.specs.Io.KnownBytes.{Appends}
 use Rattle.history_rules.specs.Legal.{IsLegal}
-use Rattle.history_book.specs.Told.{IsTold}
 use Rattle.report_text.specs.Texts.{text_of}
 use Rattle.script_serving.specs.declared.script.Script.{Script}
 use Rattle.script_serving.specs.Serves.{Serves}
@@ -10,7 +9,7 @@ use Rattle.script_text.specs.Refused.{IsFirstRefused}
 use Rattle.nrt_main.specs.declared.status.Status.{Status}
 use Rattle.nrt_main.specs.declared.status.Status.TheVariants.{BadScript, Memory}
 use Rattle.cluster_state.specs.Run.{Run}
-use Rattle.cluster_run.specs.Running.{history_of}
+use Rattle.cluster_run.specs.Running.{history_of, TellsInner}
 use Rattle.nrt_main.specs.Headline.{HasRun}
 
 -- the answer to bytes of which nothing is run: a line of them that is refused and why, or want of memory
@@ -24,7 +23,7 @@ pub record IsReport (script : Script) (r : Run) (text : List ℕ) : Type 0 where
   pub running : r.ended ≡ false
   pub legal : IsLegal (history_of r)
   pub serves : Serves script (history_of r)
-  pub told : IsTold r.log
+  pub told : TellsInner script r.log
   pub is : text ≡ text_of (history_of r)
 
 -- the cluster has run the script that the bytes are, and the sink gained the text of its history

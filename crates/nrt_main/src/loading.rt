@@ -1,8 +1,8 @@
 //! The command that runs the generated script.
 
-ghost use Rattle.std.specs.Prelude.{◌≡◌, ◌≢◌, ◌≤◌, ◌<◌, ◌↔◌, ℕ, None, codes, IsTrue, IsSomeAnd, IfOk, MatchOption};
+ghost use Rattle.std.specs.Prelude.{◌≡◌, ◌≢◌, ◌≤◌, ◌<◌, ℕ, None, IsSomeAnd, IfOk};
 ghost use Rattle.nrt_base.specs.Causes.{Rose};
-ghost use Rattle.nrt_main.specs.Load.{IsLoadOf, IsLoad, IsSummary, LeavesSummary, LeavesSummaryInPart, IsLoadAnswer};
+ghost use Rattle.nrt_main.specs.Load.{IsLoadOf, IsSummary, LeavesSummary, LeavesSummaryInPart, IsLoadAnswer};
 
 use crate::status::Status;
 use crate::writing::write_all;
@@ -11,33 +11,9 @@ use disk_memory::MemDir;
 use load_script::{generated, summary};
 use nrt_base::NoMemory;
 use nrt_streams::{Arg, Sink};
-use script_text::number_u32;
 use std::alloc::Global;
 use std::sync::Wait;
 use std::thread::Threads;
-
-fn is_load(word: &[u8]) -> bool
-    ensures { IsTrue result ↔ (word.now ≡ codes "load") }
-{
-    word == b"load".as_slice()
-}
-
-/// How many documents the words ask for.
-#[tactic(auto, using(crate::proofs::Loads::other_words, crate::proofs::Loads::first_is))]
-pub fn load_asked(words: &[Arg]) -> Option<u32>
-    ensures { MatchOption result (¬ IsLoad words.now) (IsLoadOf words.now) }
-{
-    match words {
-        [first, second] => {
-            if is_load(first.as_slice()) {
-                number_u32(1, 10000, second.as_slice())
-            } else {
-                None
-            }
-        }
-        _ => None,
-    }
-}
 
 /// A run of the script of n documents, and its summary.
 fn run_load<R: Threads + Wait + Sync, G: Gate + Sync>(

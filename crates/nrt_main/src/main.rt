@@ -1,15 +1,17 @@
-//! The program: it runs a script and writes its report, or tells the messages of a stream, or checks an image, or runs the generated
-//! script and writes its summary.
+//! The program: it runs a script and writes its report, or the image of a node's directory, or the frames of a copy to a node; or tells
+//! the messages of a stream, or checks an image, or runs the generated script and writes its summary.
 #![tactic(auto)]
 
 ghost use Rattle.std.specs.Prelude.{◌≡◌};
 ghost use Rattle.nrt_main.specs.Statuses.{cause_number};
 
+mod asking;
 mod checking;
 mod gate;
 mod judging;
 mod loading;
 mod message;
+mod nodes;
 mod picturing;
 mod reading;
 #[cfg(test)]

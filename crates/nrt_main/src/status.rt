@@ -45,6 +45,12 @@ pub enum Status {
     /// The report is not that of a legal history which serves the script, and the line that says where it goes wrong is written.
     #[error("the report is not that of a legal history")]
     BadReport,
+    /// The script has fewer nodes than the number of the one that is asked for.
+    #[error("the script has fewer nodes")]
+    NoSuchNode,
+    /// No copy to the node that is asked for can begin, as the script leaves it.
+    #[error("no copy can begin: no primary runs, or the node is down or is the primary")]
+    NoCopy,
 }
 
 impl Status {
@@ -64,6 +70,8 @@ impl Status {
             Status::BadImage => 9,
             Status::BadStream(_) => 10,
             Status::BadReport => 11,
+            Status::NoSuchNode => 12,
+            Status::NoCopy => 13,
         }
     }
 }

@@ -6,6 +6,7 @@ mod faulty;
 
 use crate::gate::OpenGate;
 use crate::status::Status;
+use crate::tests::faulty::{is_legal_report, ran};
 use crate::top::{read_script, run_nrt};
 use cluster_run::{Gate, Place, run_script};
 use nrt_base::LineNo;
@@ -152,6 +153,48 @@ fn check(rt: HostRuntime) -> Result<(), Fail> {
         let (status, written) = run(&rt, rt.alloc(), &[b"check"], image, reads, writes)?;
         assert_eq!(rt; status, *wanted);
         assert_eq!(rt; written.as_slice(), *text);
+    }
+    Ok(())
+}
+
+const ONE_COMMIT: &[u8] = b"nodes 2\n1 put a x\n1 publish\n1 commit 1\n";
+
+// The image of a node that has committed, and of one that has not, as they are checked; and a node that the script lacks.
+#[test]
+fn images(rt: HostRuntime) -> Result<(), Fail> {
+    let rows: &[(&[u8], Status, &[u8])] = &[
+        (
+            b"1",
+            Status::Done,
+            b"check commit 1 version 2 segments 1 documents 1\n",
+        ),
+        (b"2", Status::Done, b"check none\n"),
+        (b"3", Status::NoSuchNode, b""),
+    ];
+    for (node, wanted, line) in rows {
+        let (status, image) = run(&rt, rt.alloc(), &[b"image", node], ONE_COMMIT, &[], &[])?;
+        assert_eq!(rt; status, *wanted);
+        let (_, text) = run(&rt, rt.alloc(), &[b"check"], image.as_slice(), &[], &[])?;
+        assert_eq!(rt; text.as_slice(), *line);
+    }
+    Ok(())
+}
+
+// A copy to the primary, to a replica, and to a node that the script lacks; the frames of each are told.
+#[test]
+fn sends(rt: HostRuntime) -> Result<(), Fail> {
+    let rows: &[(&[u8], Status, bool)] = &[
+        (b"1", Status::NoCopy, true),
+        (b"2", Status::Done, false),
+        (b"3", Status::NoSuchNode, true),
+    ];
+    for (node, wanted, none) in rows {
+        let (status, stream) = run(&rt, rt.alloc(), &[b"send", node], ONE_COMMIT, &[], &[])?;
+        assert_eq!(rt; status, *wanted);
+        assert!(rt; stream.is_empty() == *none);
+        let (told, text) = run(&rt, rt.alloc(), &[b"frames"], stream.as_slice(), &[], &[])?;
+        assert_eq!(rt; told, Status::Done);
+        assert!(rt; text.is_empty() == *none);
     }
     Ok(())
 }
@@ -361,6 +404,10 @@ fn promotions(rt: HostRuntime) -> Result<(), Fail> {
 const HELD: &[u8] =
     b"nodes 2\n1 put a red fox\n1 publish\n1 copy 2\n1 open 2 7\n1 put b red hen\n1 publish\n1 merge 2\n1 drain 9\n1 publish\n1 copy 2\n1 ask 7 red\n1 files 2\n1 close 7\n1 files 2\n";
 
+// What a search read is given back: behind two versions its node has the files of the last one alone.
+const SEARCHED: &[u8] =
+    b"nodes 2\n1 put a x\n1 publish\n1 copy 2\n1 search 2 x\n1 put b x\n1 publish\n1 merge 2\n1 drain 9\n1 publish\n1 copy 2\n1 search 2 x\n1 files 2\n";
+
 // A deletion between a merge's start and its cut-over.
 const DELETED: &[u8] =
     b"nodes 2\n1 put a cat\n1 publish\n1 put b cat\n1 publish\n1 merge 2\n1 delete a\n1 publish\n1 drain 9\n1 publish\n1 search 1 cat\n1 files 1\n";
@@ -387,6 +434,10 @@ fn merges(rt: HostRuntime) -> Result<(), Fail> {
         (
             HELD,
             b"\n8 merging _10002\n9 drained 3\n10 publishing\n10 published 1 4\n11 copying 2 4\n11 switched 2 4\n11 copied 2 4\n12 asking 2 7 2\n12 answer 2 7 2 1 1:a\n13 files 2 _10000.docs _10000.post _10000.si _10002.docs _10002.post _10002.si\n14 closed 2 7\n15 files 2 _10002.docs _10002.post _10002.si\n",
+        ),
+        (
+            SEARCHED,
+            b"\n11 copied 2 4\n12 opened 2 0 4\n12 answer 2 0 4 2 1:a 1:b\n13 files 2 _10002.docs _10002.post _10002.si\n",
         ),
         (
             DELETED,
@@ -452,22 +503,12 @@ fn is_reply(line: &[u8]) -> bool {
 #[test]
 fn eight_lanes_and_four_workers(rt: HostRuntime) -> Result<(), Fail> {
     let alloc = rt.alloc();
-    let words = words(alloc, &[b"run"])?;
-    let mut source = MemSource::new(eight_lanes(alloc)?, 4096, Vec::new(alloc));
-    let mut sink = MemSink::new(alloc, 1_048_576, 4096, Vec::new(alloc))?;
-    let mut kept = None;
-    let status = run_nrt(
-        &rt,
-        alloc,
-        words.as_slice(),
-        &mut source,
-        &mut sink,
-        &OpenGate,
-        &mut kept,
-    );
+    let script = eight_lanes(alloc)?;
+    let (status, text) = ran(&rt, alloc, b"run", script.to_vec(alloc)?)?;
     assert_eq!(rt; status, Status::Done);
-    let lines = sink.bytes().split(|byte| *byte == b'\n');
+    let lines = text.as_slice().split(|byte| *byte == b'\n');
     assert_eq!(rt; lines.filter(|line| is_reply(line)).count(), 2000);
+    assert!(rt; is_legal_report(&rt, alloc, script.as_slice(), text.as_slice())?);
     Ok(())
 }
 

@@ -1,11 +1,9 @@
 //! The whole program: what its arguments ask for, and the answer to it.
 
-ghost use Rattle.std.specs.Prelude.{◌≡◌, ◌≤◌, length, ◌<◌, ◌-◌, ◌^◌, ◌↔◌, ◌≢◌, ℕ, [], ◌∷◌, None, IsTrue, IsSomeAnd, IfOk, IfErr};
-ghost use Rattle.nrt_base.specs.Causes.{Rose};
+ghost use Rattle.std.specs.Prelude.{◌≡◌, ◌≤◌, length, ◌<◌, ◌-◌, ◌^◌, ◌↔◌, ◌≢◌, ℕ, None, IsSomeAnd, IfOk, IfErr};
 ghost use Rattle.script_serving.specs.Form.{IsInForm};
 ghost use Rattle.script_text.specs.Grammar.{SpellsScript};
-ghost use Rattle.script_text.specs.Refused.{IsFirstRefused};
-ghost use Rattle.nrt_main.specs.Headline.{Ran, Answers, RanInPart, AnswersInPart, IsAnswer, AnswersWhole, Refuses, IsRun, LeavesRun, LeavesRunInPart, TakesWithin, TakesMore, longest};
+ghost use Rattle.nrt_main.specs.Headline.{Ran, RanInPart, AnswersWhole, Refuses, IsRun, LeavesRun, LeavesRunInPart, TakesWithin, TakesMore, longest};
 ghost use Rattle.wire_frames.specs.Runs.{GaveBadStream, GaveMore};
 ghost use Rattle.nrt_main.specs.Frames.{IsFrames, RanFrames, RanFramesInPart, IsFramesAnswer};
 ghost use Rattle.nrt_main.specs.Check.{IsCheck, RanCheck, FoundWrong, RanCheckInPart, GaveNoImage, AnswersCheck};
@@ -15,19 +13,22 @@ ghost use Rattle.nrt_main.specs.Load.{IsLoad, IsLoadOf, LeavesSummary, LeavesSum
 ghost use Rattle.run_picture.specs.Picture.{picture_of};
 ghost use Rattle.run_drawing.specs.Drawing.{drawing_of};
 ghost use Rattle.nrt_main.specs.Pictures.{IsPicture, IsDrawing, IsShowing, Showed, ShowedInPart, RefusesShown, AnswersShown, OffersShown};
+ghost use Rattle.nrt_main.specs.NodeTexts.{IsImageRow, IsSendRow, AnswersNode};
 ghost use Rattle.nrt_main.specs.Rows.{IsKnownRow};
-ghost use Rattle.nrt_main.specs.TopCalls.{IsRefusal, IsReport, LeavesText, LeavesFront};
+ghost use Rattle.nrt_main.specs.TopCalls.{IsRefusal};
 
+use crate::asking::{is_pair, is_word, number_asked};
 use crate::checking::check_source;
 use crate::judging::judge_source;
-use crate::loading::{load, load_asked};
+use crate::loading::load;
+use crate::nodes::{NodeText, node_source};
 use crate::picturing::{PictureKind, show_source};
 use crate::reading::{ReadEnd, read_all};
 use crate::status::Status;
 use crate::writing::write_all;
 use cluster_run::{Cluster, Gate, run_script};
 use disk_memory::MemDir;
-use nrt_base::{LineNo, NoMemory};
+use nrt_base::LineNo;
 use nrt_streams::{Arg, Sink, Source};
 use report_text::report_entries;
 use script_serving::Script;
@@ -52,94 +53,8 @@ pub fn read_script(alloc: Global, bytes: &[u8]) -> Result<Script, Status>
     }
 }
 
-/// A run of the script, and its report.
-fn run_report<R: Threads + Wait + Sync, G: Gate + Sync>(
-    rt: &R,
-    alloc: Global,
-    gate: &G,
-    script: &Script,
-) -> Result<(Cluster<MemDir>, Vec<u8>), NoMemory>
-    requires form { IsInForm script.now }
-    ensures { IfOk result (λ run. IsReport script.now run.0 run.1.items) }
-{
-    let cluster = run_script(rt, alloc, gate, script)?;
-    let text = report_entries(alloc, cluster.entries())?;
-    Ok((cluster, text))
-}
-
-/// Runs the script that the bytes are.
-#[tactic(auto, using(crate::proofs::Leaving::leaves_text, crate::proofs::Leaving::leaves_front, crate::proofs::Leaving::answers_text, crate::proofs::Leaving::answers_front, crate::proofs::AnswerLaws::run_answer, crate::proofs::AnswerLaws::refusal_answer))]
-fn run_bytes<R: Threads + Wait + Sync, K: Sink, G: Gate + Sync>(
-    rt: &R,
-    alloc: Global,
-    gate: &G,
-    bytes: &[u8],
-    sink: &mut K,
-    left: &mut Option<Cluster<MemDir>>,
-) -> Status
-    requires long { length bytes.now ≤ longest }
-    requires empty { left.old ≡ None }
-    ensures done { result ≡ Status.Done → Answers bytes.now (K.held sink.old) (K.held sink.new) }
-    ensures part { result ≡ Status.WriteFault → AnswersInPart bytes.now (K.held sink.old)
-        (K.held sink.new) }
-    ensures bad { (n : LineNo) (cause : LineFault) → result ≡ Status.BadScript n cause
-        → IsFirstRefused bytes.now n.0 cause }
-    ensures answers { result ≢ Status.Memory → IsAnswer bytes.now result }
-    ensures write { result ≡ Status.WriteFault → Rose (K.fault_count sink.old)
-        (K.fault_count sink.new) }
-    ensures kept { result ≢ Status.Done → result ≢ Status.WriteFault → sink.new ≡ sink.old }
-    ensures others { (result ≢ Status.Usage) × (result ≢ Status.ReadFault) ×
-        (result ≢ Status.TooLarge) × (result ≢ Status.BadIndex) × (result ≢ Status.BadImage) ×
-        ((k : ℕ) → result ≢ Status.BadStream k) }
-
-    // The cluster that is left.
-    ensures whole { result ≡ Status.Done → IsSomeAnd left.new
-        (LeavesText bytes.now (K.held sink.old) (K.held sink.new)) }
-    ensures front { result ≡ Status.WriteFault → IsSomeAnd left.new
-        (LeavesFront bytes.now (K.held sink.old) (K.held sink.new)) }
-    ensures none { result ≢ Status.Done → result ≢ Status.WriteFault → left.new ≡ None }
-{
-    let script = match read_script(alloc, bytes) {
-        Ok(script) => script,
-        Err(status) => return status,
-    };
-    let Ok((cluster, text)) = run_report(rt, alloc, gate, &script) else {
-        return Status::Memory;
-    };
-    *left = Some(cluster);
-    match write_all(sink, text.as_slice()) {
-        Ok(()) => Status::Done,
-        Err(_) => Status::WriteFault,
-    }
-}
-
-fn is_same(word: &[u8], other: &[u8]) -> bool
-    ensures { IsTrue result ↔ (word.now ≡ other.now) }
-{
-    word == other
-}
-
-/// Whether the words are this one alone.
-fn is_word(words: &[Arg], word: &[u8]) -> bool
-    ensures { IsTrue result ↔ (words.now ≡ word.now ∷ []) }
-{
-    match words {
-        [only] => is_same(only.as_slice(), word),
-        _ => false,
-    }
-}
-
-/// Whether the words are these two.
-fn is_pair(words: &[Arg], one: &[u8], other: &[u8]) -> bool
-    ensures { IsTrue result ↔ (words.now ≡ one.now ∷ other.now ∷ []) }
-{
-    match words {
-        [first, second] => is_same(first.as_slice(), one) && is_same(second.as_slice(), other),
-        _ => false,
-    }
-}
-
 /// Reads a script from the source, runs it, and writes its report to the sink.
+#[tactic(auto, using(crate::proofs::Leaving::report_is, crate::proofs::Leaving::leaves_text, crate::proofs::Leaving::leaves_front, crate::proofs::Leaving::answers_text, crate::proofs::Leaving::answers_front, crate::proofs::AnswerLaws::run_answer, crate::proofs::AnswerLaws::refusal_answer))]
 fn run_source<R: Threads + Wait + Sync, S: Source, K: Sink, G: Gate + Sync>(
     rt: &R,
     alloc: Global,
@@ -175,11 +90,26 @@ fn run_source<R: Threads + Wait + Sync, S: Source, K: Sink, G: Gate + Sync>(
         (S.left source.old) (S.left source.new) (K.held sink.old) (K.held sink.new)) }
     ensures none { result ≢ Status.Done → result ≢ Status.WriteFault → left.new ≡ None }
 {
-    match read_all(alloc, source) {
-        Ok(bytes) => run_bytes(rt, alloc, gate, bytes.as_slice(), sink, left),
-        Err(ReadEnd::Memory) => Status::Memory,
-        Err(ReadEnd::Fault) => Status::ReadFault,
-        Err(ReadEnd::TooLarge) => Status::TooLarge,
+    let bytes = match read_all(alloc, source) {
+        Ok(bytes) => bytes,
+        Err(ReadEnd::Memory) => return Status::Memory,
+        Err(ReadEnd::Fault) => return Status::ReadFault,
+        Err(ReadEnd::TooLarge) => return Status::TooLarge,
+    };
+    let script = match read_script(alloc, bytes.as_slice()) {
+        Ok(script) => script,
+        Err(status) => return status,
+    };
+    let Ok(cluster) = run_script(rt, alloc, gate, &script) else {
+        return Status::Memory;
+    };
+    let Ok(text) = report_entries(alloc, cluster.entries()) else {
+        return Status::Memory;
+    };
+    *left = Some(cluster);
+    match write_all(sink, text.as_slice()) {
+        Ok(()) => Status::Done,
+        Err(_) => Status::WriteFault,
     }
 }
 
@@ -250,8 +180,15 @@ fn frames_source<S: Source, K: Sink>(alloc: Global, source: &mut S, sink: &mut K
 /// show of each node. `picture svg` writes the drawing of that history. Behind a line `report` they read a report, which is judged and shown
 /// in place of a run; where it goes wrong the sink gains the line that says where and why. Both leave no cluster in `kept`.
 ///
+/// `image N`: it runs a script as `run` does, and writes the image of the directory that it leaves at node N, N from 1 to 16, to the sink;
+/// `check` reads such an image. `NoSuchNode` says that the script has fewer nodes, and nothing was run. It leaves no cluster in `kept`.
+///
+/// `send N`: it runs a script in the same way, and writes the frames that a copy of the newest point to node N takes to the sink: the copy
+/// state of the primary's point, and the files of it that the node lacks; `frames` reads them. `NoCopy` says that no primary runs, or that
+/// the node is down or is the primary. It leaves no cluster in `kept`.
+///
 /// On every answer but `Done`, `WriteFault`, `BadIndex` and `BadReport` the sink is as before.
-#[tactic(auto, using(crate::proofs::Loads::one_word, crate::proofs::Loads::no_word, crate::proofs::Loads::takes_none, crate::proofs::Complete::script_done, crate::proofs::Complete::shown_done, crate::proofs::Complete::load_done))]
+#[tactic(auto, using(crate::proofs::Numbers::one_word, crate::proofs::Numbers::no_word, crate::proofs::Loads::takes_none, crate::proofs::Complete::script_done, crate::proofs::Complete::shown_done, crate::proofs::Complete::load_done))]
 pub fn run_nrt<R: Threads + Wait + Sync, S: Source, K: Sink, G: Gate + Sync>(
     rt: &R,
     alloc: Global,
@@ -354,6 +291,16 @@ pub fn run_nrt<R: Threads + Wait + Sync, S: Source, K: Sink, G: Gate + Sync>(
         → result ≢ Status.TooLarge → result ≢ Status.Memory
         → AnswersShown (S.left source.old) (S.left source.new) result }
 
+    // `image N`, and `send N`.
+    ensures image { (n : ℕ) → IsImageRow words.now n → result ≢ Status.ReadFault
+        → result ≢ Status.TooLarge → result ≢ Status.Memory
+        → AnswersNode NodeText.Image n (S.left source.old) (S.left source.new) (K.held sink.old)
+        (K.held sink.new) result }
+    ensures send { (n : ℕ) → IsSendRow words.now n → result ≢ Status.ReadFault
+        → result ≢ Status.TooLarge → result ≢ Status.Memory
+        → AnswersNode NodeText.Frames n (S.left source.old) (S.left source.new) (K.held sink.old)
+        (K.held sink.new) result }
+
     // Where no read and no write failed, and the source has left what is asked for, all is done, or memory ran out.
     ensures complete { IsRun words.now → OffersScript (S.left source.old)
         → NoneFailed (S.fault_count source.old) (S.fault_count source.new)
@@ -392,9 +339,17 @@ pub fn run_nrt<R: Threads + Wait + Sync, S: Source, K: Sink, G: Gate + Sync>(
     } else if is_pair(words, b"picture", b"svg") {
         show_source(rt, alloc, gate, PictureKind::Drawing, source, sink)
     } else {
-        match load_asked(words) {
+        match number_asked(words, b"load", 10000) {
             Some(n) => load(rt, alloc, gate, words, n, sink, kept),
-            None => Status::Usage,
+            None => match number_asked(words, b"image", 16) {
+                Some(n) => node_source(rt, alloc, gate, NodeText::Image, words, n, source, sink),
+                None => match number_asked(words, b"send", 16) {
+                    Some(n) => {
+                        node_source(rt, alloc, gate, NodeText::Frames, words, n, source, sink)
+                    }
+                    None => Status::Usage,
+                },
+            },
         }
     }
 }

@@ -10,7 +10,7 @@ ghost use Rattle.history_rules.specs.Started.{StartedSearch};
 ghost use Rattle.known_past.specs.Known.{IsKnown};
 ghost use Rattle.history_points.specs.AskedPoints.{IsAskedPoint};
 
-use documents::{Answer, Hit, Query, scan_if_told};
+use documents::{Answer, Hit, Query};
 use history_facts::is_node;
 use history_points::AskedPoint;
 use history_rules::{Entry, Event};
@@ -77,8 +77,7 @@ fn is_right(
         IsTrue right ↔ (answer.now ≡ scan_of (documents_at (reverse entries.now) v.0) query.now)) }
     ensures asked { OnOk result (IsAskedPoint (reverse entries.now) asked.new) }
 {
-    let docs = asked.documents(alloc, entries, v)?;
-    match scan_if_told(alloc, docs.as_slice(), query)? {
+    match asked.answer(alloc, entries, v, query)? {
         Some(right) => Ok(same_answer(answer, &right)),
         None => {
             read_first_rank(answer);

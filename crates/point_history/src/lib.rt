@@ -1,4 +1,5 @@
-//! The judge of histories: whether one is legal, and the points of one that is.
+//! The judge of histories: whether one is legal, and the points of one that is. It is a crate of its own, since only the judge of reports
+//! needs it: the cluster keeps to the rules as its contracts say, and judges no history.
 #![tactic(auto)]
 
 mod answers;

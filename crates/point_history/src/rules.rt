@@ -9,9 +9,7 @@ ghost use Rattle.history_rules.specs.Faults.{has_met_fault, has_file_fault};
 ghost use Rattle.known_past.specs.Known.{IsKnown};
 ghost use Rattle.history_rules.specs.Rules.{MayAccept, MayStartPublish, MayPublish, MayStartCopy, MaySwitch, MayFinishCopy, MayStartSettle, MaySettle, MayOpen, MayAsk, MayClose, MayStartCommit, MayCommit, MayCrash, MayReopen, MayPromote, MayStartMerge, MayDrain, StartedCopy, IsLineWhole};
 
-use history_facts::{
-    is_free_for, is_node, is_reopenable, is_replica, same_at, version_of, was_searched_since,
-};
+use history_facts::{is_free_for, is_node, same_at, version_of, was_searched_since};
 use history_rules::{Entry, Event};
 use known_past::KnownPast;
 use nrt_base::{At, Gen, NodeNo, SegNo, TicketNo, Version};
@@ -108,9 +106,7 @@ fn started_copy(n: NodeNo, v: Version, at: At, known: &KnownPast, entries: &[Ent
     match known.start_entry(at, entries) {
         Some(Event::Copying { n: m, v: w }) => m.0 == n.0 && w.0 == v.0,
         Some(Event::Settling { v: w }) => {
-            w.0 <= v.0
-                && known.version_of(n, entries) < w.0
-                && is_replica(n, known.before_start(at, entries))
+            w.0 <= v.0 && known.version_of(n, entries) < w.0 && known.was_replica(n, at, entries)
         }
         _ => false,
     }
@@ -217,7 +213,7 @@ fn is_settled(n: NodeNo, v: Version, at: At, known: &KnownPast, entries: &[Entry
 {
     v.0 <= known.version_of(n, entries)
         || !known.node_survives(n, at, entries)
-        || !is_replica(n, known.before_start(at, entries))
+        || !known.was_replica(n, at, entries)
 }
 
 /// Whether a node of a settle has crashed since, or the settle met no fault in a file for it.
@@ -408,7 +404,7 @@ pub(crate) fn may_reopen(
 {
     is_node(nodes, n)
         && !known.is_running(n, entries)
-        && is_reopenable(n, v, entries)
+        && known.is_reopenable(n, v, entries)
         && !known.has_met_fault(at, entries)
 }
 

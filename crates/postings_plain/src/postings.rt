@@ -116,6 +116,7 @@ impl<'a> Postings<'a> {
     }
 
     /// Takes the first hit that is left: says which row it is of and how many positions are in it, and passes it.
+    #[inline(always)]
     pub fn next_hit(&mut self) -> Option<(u32, u32)>
         ensures answer { result ≡ first_hit self.old }
         ensures left { self.new ≡ after_first self.old }
@@ -140,19 +141,6 @@ impl<'a> Postings<'a> {
             }
         }
         None
-    }
-
-    /// Another reader of the same hits.
-    pub fn again(&self) -> Postings<'a>
-        ensures { result ≡ self.now }
-    {
-        Postings {
-            field: self.field,
-            least: self.least,
-            count: self.count,
-            rest: self.rest,
-            next: self.next,
-        }
     }
 
     /// The positions of the word in the first row that is left: none where no row is left, and none for a key. They are lent

@@ -1,4 +1,5 @@
-//! What a search answers, found over the postings of segments. It is the scan of the documents of their live rows.
+//! What a search answers, found over the postings of segments. It is the scan of the documents of their live rows. Only lanes search, so a
+//! change here proves no node again.
 #![tactic(auto)]
 
 mod best;

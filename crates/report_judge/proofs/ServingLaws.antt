@@ -1,11 +1,12 @@
 -- Entries that fit: what they are asked for by, and that one text has one such entry.
-use Rattle.std.proofs.Common.{◌≡◌, ℕ, Bool, true, false, ◌||◌, List, [], ◌∷◌, Option, Some, None, Result, Ok, Err, IfOk, refl, sym, ap, subst, ◌∙◌, ◌↔◌}
+use Rattle.std.proofs.Common.{◌≡◌, ℕ, Bool, true, false, ◌||◌, List, [], ◌∷◌, Option, Some, None, refl, sym, ap, subst, ◌∙◌, ◌↔◌}
 use Rattle.std.proofs.lemmas.Bool.{false≢true}
 use Rattle.std.proofs.lemmas.Option.{none-some}
 use Rattle.nrt_base.specs.declared.numbers.At.{At}
 use Rattle.nrt_base.specs.declared.numbers.LineNo.{LineNo}
 use Rattle.documents.specs.declared.operation.Op.{Op}
 use Rattle.history_rules.specs.declared.cause.Cause.{Cause}
+use Rattle.history_rules.specs.declared.cause.Cause.TheVariants.{TooManySegments}
 use Rattle.history_rules.specs.declared.entry.Event.{Event}
 use Rattle.history_rules.specs.declared.entry.Event.TheVariants.{Accepted, Answered, Drained, Fault as Met, Refused}
 use Rattle.history_rules.specs.declared.entry.Entry.{Entry}
@@ -19,6 +20,7 @@ use Rattle.report_reading.specs.Readings.{op_told, query_of_line, most_of_line, 
 use Rattle.report_reading.proofs.LineLaws.{narrow_fits}
 use Rattle.script_serving.specs.declared.script.Line.{Line}
 use Rattle.script_serving.specs.declared.script.LineCommand.{LineCommand}
+use Rattle.serving_rules.specs.Sizes.{CountsNewest}
 use Rattle.script_serving.specs.declared.script.LineCommand.TheVariants.{Put, Delete, Drop, Search, Ask, Merge, Drain}
 use Rattle.script_serving.specs.declared.script.Script.{Script}
 use Rattle.script_serving.specs.Form.{IsInForm}
@@ -39,6 +41,10 @@ use Rattle.report_judge.proofs.PlaceLaws.{numbered_is, none_numbered, stands_the
 pub first_begins : (command : LineCommand) (at : At) (past : Past) (e : Event) → ((cause : Cause) → e ≡ Refused cause → ⊥) → First command at past None e ↔ Begins command past e
 first_begins command at past (Refused cause) other = absurd (other cause refl)
 first_begins command at past e other = (λ h. h, λ h. h)
+
+-- where no line is refused, no documents are counted
+pub none_counted : (past : Past) (e : Event) → ((cause : Cause) → e ≡ Refused cause → ⊥) → CountsNewest past e 0
+none_counted past e other = λ refused. absurd (other TooManySegments refused)
 
 -- an entry that is no fault fits in its turn where it suits
 pub turn_suits : (lines : List Line) (past : Past) (at : At) (command : LineCommand) (e : Event) → is_fault e ≡ false
@@ -78,12 +84,11 @@ pub not_in_turn : (lines : List Line) (past : Past) (at : At) (command : LineCom
 not_in_turn lines past at command e other late fits = false≢true (sym late ∙ ((turn_suits lines past at command e other).0 fits).1)
 
 -- an entry in its turn fits where it suits
-pub suits_in_turn : {E : Type 0} (lines : List Line) (past : Past) (at : At) (command : LineCommand) (e : Event) → is_fault e ≡ false → earlier_answered lines at past ≡ true
-    → (r : Result Bool E) → IfOk r (λ is. (is ≡ true) ↔ Suits command at past (last_of_line at past) e) → IfOk r (λ fits. (fits ≡ true) ↔ FitsTurn lines past at (Some command) e)
-suits_in_turn lines past at command e other early (Ok is) h =
+pub suits_in_turn : (lines : List Line) (past : Past) (at : At) (command : LineCommand) (e : Event) → is_fault e ≡ false → earlier_answered lines at past ≡ true
+    → (is : Bool) → (is ≡ true) ↔ Suits command at past (last_of_line at past) e → (is ≡ true) ↔ FitsTurn lines past at (Some command) e
+suits_in_turn lines past at command e other early is h =
     let turn = turn_suits lines past at command e other in
     (λ k. turn.1 (h.0 k, early), λ k. h.1 (turn.0 k).0)
-suits_in_turn lines past at command e other early (Err fault) h = h
 
 pub merge_fault_is : (command : LineCommand) (e : Event) → is_merge command ≡ true → is_fault e ≡ true → is_merge_fault (Some command) e ≡ true
 merge_fault_is (Merge factor) (Met n kind) is fault = refl
@@ -206,15 +211,14 @@ module _ (script : Script) (past : Past) (e : Entry) (command : LineCommand) (he
       )
 
   -- where nothing is due, if it fits in its turn
-  pub turn_next : {E : Type 0} (left : List Op) → left ≡ due script.log past → left ≡ [] → (is_merge_fault (Some command) e.event || earlier_phases_answered script.phases e.at past) ≡ true
-      → (r : Result Bool E) → IfOk r (λ fits. (fits ≡ true) ↔ FitsTurn (lines_of_lane e.at.lane.0 script) past e.at (Some command) e.event) → IfOk r (λ fits. (fits ≡ true) ↔ FitsNext script past e)
-  turn_next left is none phase (Ok r) h =
+  pub turn_next : (left : List Op) → left ≡ due script.log past → left ≡ [] → (is_merge_fault (Some command) e.event || earlier_phases_answered script.phases e.at past) ≡ true
+      → (r : Bool) → (r ≡ true) ↔ FitsTurn (lines_of_lane e.at.lane.0 script) past e.at (Some command) e.event → (r ≡ true) ↔ FitsNext script past e
+  turn_next left is none phase r h =
       let lines = lines_of_lane e.at.lane.0 script in
       let nothing : [] ≡ due script.log past = sym none ∙ is in (
         λ k. next_of (subst (λ (ops : List Op). Fits ops lines past e.at (Some command) e.event) nothing (h.0 k)) phase,
         λ k. h.1 (subst (λ (ops : List Op). Fits ops lines past e.at (Some command) e.event) (sym nothing) (lane_of k)),
       )
-  turn_next left is none phase (Err fault) h = h
 
 -- ---- one entry of a text fits
 

@@ -1,8 +1,10 @@
 //! What a report is: it is read as far as its entries serve the script, and then these are judged.
 
-ghost use Rattle.std.specs.Prelude.{◌≡◌, ◌≤◌, ◌<◌, ◌+◌, ◌^◌, ◌||◌, ◌∷◌, [], Some, reverse, length, IsTrue, IfOk, ◌↔◌};
+ghost use Rattle.std.specs.Prelude.{◌≡◌, ◌≤◌, ◌<◌, ◌+◌, ◌^◌, ◌||◌, ◌∷◌, [], Some, reverse, length, IsTrue, IfOk, OnOk, ◌↔◌};
 ghost use Rattle.script_serving.specs.Form.{IsInForm};
 ghost use Rattle.known_past.specs.Known.{IsKnown};
+ghost use Rattle.history_points.specs.AskedPoints.{IsAskedPoint};
+ghost use Rattle.serving_rules.specs.Sizes.{CountsNewest};
 ghost use Rattle.script_serving.specs.Lines.{lines_of, earlier_phases_answered};
 ghost use Rattle.script_serving.specs.Serves.{ServesLanes, ServesPhases, is_merge_fault};
 ghost use Rattle.script_serving.specs.Refusals.{put_publishes};
@@ -20,9 +22,10 @@ use crate::replay::Replay;
 use crate::serving::{fits_replay, fits_turn, is_merge};
 use crate::spots::{Spots, find_line, phase_of, spots_of};
 use crate::turns::{Turns, is_phase, phases_passed};
+use history_points::AskedPoint;
 use history_rules::{Entry, Event, History, Verdict};
 use known_past::{KnownPast, is_fault};
-use nrt_base::{At, LineNo, List, NoMemory};
+use nrt_base::{At, LineNo, List, NoMemory, Version};
 use point_history::legal;
 use report_reading::{entry_is_narrow, next_line};
 use script_serving::{LineCommand, Script};
@@ -82,6 +85,7 @@ fn fits_next(
     script: &Script,
     passed: usize,
     shown: &Shown,
+    documents: usize,
     entries: &[Entry],
     entry: &Entry,
 ) -> Result<bool, NoMemory>
@@ -89,6 +93,7 @@ fn fits_next(
     requires shown { IsShown script.now (reverse entries.now) shown.now }
     requires passed { ArePhasesAnswered script.now (reverse entries.now) passed }
     requires told { IsEntryTold script.now (left_to_replay shown.now.replay) entry.now }
+    requires documents { CountsNewest (reverse entries.now) entry.now.event documents }
     ensures { IfOk result (λ fits. IsTrue fits ↔
         FitsNext script.now (reverse entries.now) entry.now) }
 {
@@ -106,16 +111,41 @@ fn fits_next(
     let is_turn = shown
         .turns
         .is_turn(alloc, script, known, entry.at, entries)?;
-    fits_turn(
-        alloc,
+    Ok(fits_turn(
         command,
         is_turn,
         entry.at,
         known,
+        documents,
         shown.puts,
         entries,
         &entry.event,
-    )
+    ))
+}
+
+/// How many documents the newest version has, where the entry refuses a line.
+#[tactic(auto, using(crate::proofs::ServingLaws::none_counted))]
+fn newest_count(
+    alloc: Global,
+    asked: &mut AskedPoint,
+    known: &KnownPast,
+    entries: &[Entry],
+    entry: &Entry,
+) -> Result<usize, NoMemory>
+    requires known { IsKnown (reverse entries.now) known.now }
+    requires asked { IsAskedPoint (reverse entries.now) asked.old }
+    ensures count { IfOk result (λ count.
+        CountsNewest (reverse entries.now) entry.now.event count) }
+    ensures asked { OnOk result (IsAskedPoint (reverse entries.now) asked.new) }
+{
+    match &entry.event {
+        Event::Refused { .. } => {
+            let newest = Version(known.newest(entries));
+            let count = asked.document_count(alloc, entries, newest)?;
+            Ok(count)
+        }
+        _ => Ok(0),
+    }
 }
 
 /// How many publishes made a segment, after one more entry.
@@ -231,9 +261,15 @@ fn history_of(script: &Script, entries: Vec<Entry>) -> History
     History { nodes, entries }
 }
 
-/// Reads a report as far as its entries serve the script.
-pub fn walk(alloc: Global, script: &Script, report: &[u8]) -> Result<(History, WalkEnd), NoMemory>
+/// Reads a report as far as its entries serve the script, over what is kept of the documents that were counted.
+fn walk_over(
+    alloc: Global,
+    script: &Script,
+    report: &[u8],
+    asked: &mut AskedPoint,
+) -> Result<(History, WalkEnd), NoMemory>
     requires form { IsInForm script.now }
+    requires asked { IsAskedPoint [] asked.old }
     ensures { IfOk result (λ walk. IsWalk script.now report.now walk.0 walk.1) }
 {
     let spots = spots_of(alloc, script)?;
@@ -249,15 +285,28 @@ pub fn walk(alloc: Global, script: &Script, report: &[u8]) -> Result<(History, W
         let before = entries.as_slice();
         let phase = phase_of(&spots, entry.at, script).unwrap_or(0);
         passed = phases_passed(alloc, script, passed, phase, &shown.known, before)?;
-        if !fits_next(alloc, &spots, script, passed, &shown, before, &entry)? {
+        let documents = newest_count(alloc, asked, &shown.known, before, &entry)?;
+        if !fits_next(
+            alloc, &spots, script, passed, &shown, documents, before, &entry,
+        )? {
             return Ok((history_of(script, entries), WalkEnd::Unserved));
         }
+        asked.take(&shown.known, before, &entry)?;
         shown = shown.take(alloc, script, before, &entry)?;
         entries.push(entry)?;
         left = rest;
     }
     let stop = end(alloc, script, &shown, entries.as_slice())?;
     Ok((history_of(script, entries), stop))
+}
+
+/// Reads a report as far as its entries serve the script.
+pub fn walk(alloc: Global, script: &Script, report: &[u8]) -> Result<(History, WalkEnd), NoMemory>
+    requires form { IsInForm script.now }
+    ensures { IfOk result (λ walk. IsWalk script.now report.now walk.0 walk.1) }
+{
+    let mut asked = AskedPoint::new(alloc);
+    walk_over(alloc, script, report, &mut asked)
 }
 
 /// What a report is.

@@ -1,4 +1,5 @@
-//! The judge of reports: whether one is the text of a legal history that serves its script, and else the first line that is wrong.
+//! The judge of reports: whether one is the text of a legal history that serves its script, and else the first line that is wrong. It is
+//! the whole of `nrt judge` but reading and writing.
 #![tactic(auto)]
 
 mod cuts;

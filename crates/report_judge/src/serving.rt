@@ -1,6 +1,6 @@
 //! Whether an entry is one that its line asks for, in its turn.
 
-ghost use Rattle.std.specs.Prelude.{◌≡◌, List, [], ◌∷◌, reverse, Some, None, IsTrue, IfOk, ◌↔◌};
+ghost use Rattle.std.specs.Prelude.{◌≡◌, List, [], ◌∷◌, reverse, Some, None, IsTrue, ◌↔◌};
 ghost use Rattle.script_serving.specs.Refusals.{put_publishes, refusal as refusal_lem};
 ghost use Rattle.script_serving.specs.Serves.{First, Suits, SuitsFault, FitsTurn, FitsReplay, is_newest_at as is_newest_at_lem};
 ghost use Rattle.script_serving.specs.Lines.{earlier_answered};
@@ -9,15 +9,15 @@ ghost use Rattle.known_past.specs.Known.{IsKnown};
 ghost use Rattle.script_serving.specs.declared.script.Line.{Line};
 ghost use Rattle.documents.specs.declared.operation.Op.{Op};
 ghost use Rattle.report_reading.specs.Readings.{as_told};
+ghost use Rattle.serving_rules.specs.Sizes.{CountsNewest};
 ghost use Rattle.report_judge.specs.Serving.{is_merge as is_merge_lem, is_acceptance as is_acceptance_lem};
 
 use history_facts::same_at;
 use history_rules::{Cause, Entry, Event};
 use known_past::{KnownPast, is_fault};
-use nrt_base::{At, NoMemory};
+use nrt_base::At;
 use script_serving::LineCommand;
 use serving_rules::{begins, follows, may_be_refused, refusal};
-use std::alloc::Global;
 
 /// Whether the two are one cause for which a line is refused before it has started.
 fn is_same_cause(cause: &Cause, wanted: &Cause) -> bool
@@ -66,69 +66,72 @@ fn is_refused_for(event: &Event, wanted: &Cause) -> bool
 /// Whether an entry that may be a refusal begins a line for which no cause holds.
 #[tactic(auto, using(crate::proofs::ServingLaws::first_begins))]
 fn is_first_unrefused(
-    alloc: Global,
     command: &LineCommand,
     at: At,
     known: &KnownPast,
+    documents: usize,
     puts: usize,
     entries: &[Entry],
     event: &Event,
-) -> Result<bool, NoMemory>
+) -> bool
     requires told { as_told [] command.now event.now ≡ event.now }
     requires known { IsKnown (reverse entries.now) known.now }
     requires puts { puts ≡ put_publishes (reverse entries.now) }
-    ensures { IfOk result (λ is. IsTrue is ↔
-        First command.now at (reverse entries.now) None event.now) }
+    requires documents { CountsNewest (reverse entries.now) event.now documents }
+    ensures { IsTrue result ↔
+        First command.now at (reverse entries.now) None event.now }
 {
     match event {
         Event::Refused { cause } => {
-            may_be_refused(alloc, command, at, puts, known, entries, cause)
+            may_be_refused(command, at, documents, puts, known, entries, cause)
         }
-        _ => Ok(begins(command, puts, known, entries, event)),
+        _ => begins(command, puts, known, entries, event),
     }
 }
 
 /// Whether the first entry of a line that is no fault is the refusal that holds, or one that may hold, or the line's beginning.
 fn is_first(
-    alloc: Global,
     command: &LineCommand,
     at: At,
     known: &KnownPast,
+    documents: usize,
     puts: usize,
     entries: &[Entry],
     event: &Event,
-) -> Result<bool, NoMemory>
+) -> bool
     requires told { as_told [] command.now event.now ≡ event.now }
     requires puts { puts ≡ put_publishes (reverse entries.now) }
+    requires documents { CountsNewest (reverse entries.now) event.now documents }
     requires known { IsKnown (reverse entries.now) known.now }
-    ensures { IfOk result (λ is. IsTrue is ↔ First command.now at (reverse entries.now)
-        (refusal_lem command.now at.lane.0 (reverse entries.now)) event.now) }
+    ensures { IsTrue result ↔ First command.now at (reverse entries.now)
+        (refusal_lem command.now at.lane.0 (reverse entries.now)) event.now }
 {
     match refusal(command, at.lane, known, entries) {
-        Some(cause) => Ok(is_refused_for(event, &cause)),
-        None => is_first_unrefused(alloc, command, at, known, puts, entries, event),
+        Some(cause) => is_refused_for(event, &cause),
+        None => is_first_unrefused(command, at, known, documents, puts, entries, event),
     }
 }
 
 /// Whether an entry is one that its line asks for, behind the line's newest one.
 fn suits(
-    alloc: Global,
     command: &LineCommand,
     at: At,
     known: &KnownPast,
+    documents: usize,
     puts: usize,
     entries: &[Entry],
     event: &Event,
-) -> Result<bool, NoMemory>
+) -> bool
     requires told { as_told [] command.now event.now ≡ event.now }
     requires puts { puts ≡ put_publishes (reverse entries.now) }
+    requires documents { CountsNewest (reverse entries.now) event.now documents }
     requires known { IsKnown (reverse entries.now) known.now }
-    ensures { IfOk result (λ is. IsTrue is ↔ Suits command.now at (reverse entries.now)
-        (last_of_line_lem at (reverse entries.now)) event.now) }
+    ensures { IsTrue result ↔ Suits command.now at (reverse entries.now)
+        (last_of_line_lem at (reverse entries.now)) event.now }
 {
     match known.last_of_line(at, entries) {
-        None => is_first(alloc, command, at, known, puts, entries, event),
-        Some(last) => Ok(!known.is_answered(at, entries) && follows(command, last, event)),
+        None => is_first(command, at, known, documents, puts, entries, event),
+        Some(last) => !known.is_answered(at, entries) && follows(command, last, event),
     }
 }
 
@@ -174,29 +177,29 @@ fn fits_fault(
 
 /// Whether an entry is one that its line asks for, where it is the line's turn in its lane, or is not.
 pub fn fits_turn(
-    alloc: Global,
     command: &LineCommand,
     is_turn: bool,
     at: At,
     known: &KnownPast,
+    documents: usize,
     puts: usize,
     entries: &[Entry],
     event: &Event,
-) -> Result<bool, NoMemory>
+) -> bool
     requires told { as_told [] command.now event.now ≡ event.now }
     requires puts { puts ≡ put_publishes (reverse entries.now) }
+    requires documents { CountsNewest (reverse entries.now) event.now documents }
     requires known { IsKnown (reverse entries.now) known.now }
     ensures { (lines : List Line) → is_turn ≡ earlier_answered lines at (reverse entries.now)
-        → IfOk result (λ fits. IsTrue fits ↔
-        FitsTurn lines (reverse entries.now) at (Some command.now) event.now) }
+        → IsTrue result ↔ FitsTurn lines (reverse entries.now) at (Some command.now) event.now }
 {
     if is_fault(event) {
-        return Ok(fits_fault(command, is_turn, at, known, entries));
+        return fits_fault(command, is_turn, at, known, entries);
     }
     if !is_turn {
-        return Ok(false);
+        return false;
     }
-    suits(alloc, command, at, known, puts, entries, event)
+    suits(command, at, known, documents, puts, entries, event)
 }
 
 fn is_newest_at(at: At, entries: &[Entry]) -> bool

@@ -1,4 +1,4 @@
-//! Lines of a report, read back into entries.
+//! Lines of a report, read back into entries. It is the grammar of reports, as `script_text` is that of scripts.
 #![tactic(auto)]
 
 mod causes;

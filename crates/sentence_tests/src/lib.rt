@@ -1,4 +1,5 @@
-//! Tests of what the faults of disks, segments, nodes, checks and streams say.
+//! Tests of what the faults of disks, segments, nodes, checks and streams say. They are a crate of their own, so that none that they test
+//! is proved twice.
 #![tactic(auto)]
 
 #[cfg(test)]

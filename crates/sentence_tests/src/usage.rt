@@ -5,9 +5,11 @@ use std::test::Fail;
 use usage_text::{asked, mistake};
 
 // What a help has: each command, and the statuses.
-const PARTS: [&str; 9] = [
+const PARTS: [&str; 13] = [
     "nrt run < SCRIPT",
     "nrt load N",
+    "nrt image N < SCRIPT",
+    "nrt send N < SCRIPT",
     "nrt check < IMAGE",
     "nrt frames < STREAM",
     "nrt judge < SCRIPT_AND_REPORT",
@@ -15,6 +17,8 @@ const PARTS: [&str; 9] = [
     "EXIT STATUS:\n    0   done\n",
     "\n    10  frames: the stream is bad\n",
     "\n    11  judge: the report is not that of a legal history\n",
+    "\n    12  image, send: the script has fewer nodes\n",
+    "\n    13  send: no copy to that node can begin\n",
 ];
 
 #[test]
@@ -83,8 +87,9 @@ fn mistakes(rt: HostRuntime) -> Result<(), Fail> {
     let text = mistake(rt.alloc(), &["nrt", "rum"])?;
     assert!(rt; text.as_str().contains("a similar subcommand exists: 'run'"));
     assert!(rt;
-        text.as_str()
-            .contains("Usage: nrt run < SCRIPT\n       nrt load N\n")
+        text.as_str().contains(
+            "Usage: nrt run < SCRIPT\n       nrt load N\n       nrt image N < SCRIPT\n       nrt send N < SCRIPT\n"
+        )
     );
     Ok(())
 }

@@ -1,4 +1,5 @@
-//! What a line of a script asks for, decided: why it is refused, which entry begins it, and which may follow.
+//! What a line of a script asks for, decided: why it is refused, which entry begins it, and which may follow. The judge of reports asks it,
+//! and would pass 100 functions with it.
 #![tactic(auto)]
 
 mod commands;

@@ -1,20 +1,20 @@
 //! Why a line is refused before it has started, and what it may be refused for.
 
-ghost use Rattle.std.specs.Prelude.{◌≡◌, ◌==◌, ℕ, length, reverse, IfOk};
-ghost use Rattle.history_rules.specs.Nodes.{Past, primary_of};
+ghost use Rattle.std.specs.Prelude.{◌≡◌, ◌==◌, ℕ, length, reverse};
+ghost use Rattle.history_rules.specs.Nodes.{Past, primary_of, newest_version};
 ghost use Rattle.history_rules.specs.Faults.{has_fault, is_of_disk};
-ghost use Rattle.history_rules.specs.Points.{cut_of, cut_has_put};
+ghost use Rattle.history_rules.specs.Points.{cut_of, cut_has_put, documents_at};
 ghost use Rattle.history_rules.specs.Started.{is_loss as is_loss_lem};
 ghost use Rattle.history_facts.specs.Generations.{ShowsGeneration};
 ghost use Rattle.known_past.specs.Known.{IsKnown};
 ghost use Rattle.script_serving.specs.Refusals.{when as when_lem, without_primary as without_primary_lem, without_node as without_node_lem, forced_version as forced_version_lem, names_are_spent as names_are_spent_lem, refusal as refusal_lem, put_publishes, may_be_full as may_be_full_lem, may_be_refused as may_be_refused_lem, is_copy_cause as is_copy_cause_lem};
+ghost use Rattle.serving_rules.specs.Sizes.{CountsNewest};
 
-use history_facts::{Generation, documents_at, is_at, is_of_disk, same_at};
+use history_facts::{Generation, is_at, is_of_disk, same_at};
 use history_rules::{Cause, Entry, Event};
 use known_past::KnownPast;
-use nrt_base::{At, LaneNo, NoMemory, NodeNo, SegNo, Version};
+use nrt_base::{At, LaneNo, NodeNo, SegNo, Version};
 use script_serving::{Force, LineCommand};
-use std::alloc::Global;
 
 /// The cause, where it holds.
 fn when(holds: bool, cause: Cause) -> Option<Cause>
@@ -134,25 +134,21 @@ pub fn refusal(
     }
 }
 
-/// Whether there may be 256 segments, where so many publishes made one.
-fn may_be_full(
-    alloc: Global,
-    puts: usize,
-    known: &KnownPast,
-    entries: &[Entry],
-) -> Result<bool, NoMemory>
+/// Whether there may be 256 segments, where so many publishes made one and the newest version has so many documents.
+fn may_be_full(documents: usize, puts: usize, known: &KnownPast, entries: &[Entry]) -> bool
     requires known { IsKnown (reverse entries.now) known.now }
     requires puts { puts ≡ put_publishes (reverse entries.now) }
-    ensures { IfOk result (λ full. full ≡ may_be_full_lem (reverse entries.now)) }
+    requires documents { documents
+        ≡ length (documents_at (reverse entries.now) (newest_version (reverse entries.now))) }
+    ensures { result ≡ may_be_full_lem (reverse entries.now) }
 {
     if puts < 256 {
-        return Ok(false);
+        return false;
     }
     if known.merge_count(entries) > 0 {
-        return Ok(true);
+        return true;
     }
-    let documents = documents_at(alloc, entries, Version(known.newest(entries)))?;
-    Ok(documents.len() >= 256)
+    documents >= 256
 }
 
 /// Whether a line has met a fault of the disk at a node.
@@ -171,25 +167,26 @@ fn has_disk_fault(n: NodeNo, at: At, entries: &[Entry]) -> bool
 }
 
 fn may_refuse_publish(
-    alloc: Global,
+    documents: usize,
     puts: usize,
     known: &KnownPast,
     entries: &[Entry],
     cause: &Cause,
-) -> Result<bool, NoMemory>
+) -> bool
     requires known { IsKnown (reverse entries.now) known.now }
     requires puts { puts ≡ put_publishes (reverse entries.now) }
-    ensures { (at : At) → IfOk result (λ may. may
-        ≡ may_be_refused_lem LineCommand.Publish at (reverse entries.now) cause.now) }
+    requires documents { CountsNewest (reverse entries.now) (Event.Refused cause.now) documents }
+    ensures { (at : At) → result
+        ≡ may_be_refused_lem LineCommand.Publish at (reverse entries.now) cause.now }
 {
     let generation = known.generation(entries);
     match cause {
-        Cause::Nothing => Ok(cut_is_empty(&generation, entries)),
+        Cause::Nothing => cut_is_empty(&generation, entries),
         Cause::TooManySegments => {
-            let is_full = may_be_full(alloc, puts, known, entries)?;
-            Ok(cut_has_put(&generation, entries) && is_full)
+            let is_full = may_be_full(documents, puts, known, entries);
+            cut_has_put(&generation, entries) && is_full
         }
-        _ => Ok(false),
+        _ => false,
     }
 }
 
@@ -215,26 +212,27 @@ fn may_refuse_reopening(n: NodeNo, at: At, entries: &[Entry], cause: &Cause) -> 
     }
 }
 
-/// Whether a line may be refused for a cause that the history does not decide.
+/// Whether a line may be refused for a cause that the history does not decide. The newest version has so many documents, where that is
+/// asked.
 pub fn may_be_refused(
-    alloc: Global,
     command: &LineCommand,
     at: At,
+    documents: usize,
     puts: usize,
     known: &KnownPast,
     entries: &[Entry],
     cause: &Cause,
-) -> Result<bool, NoMemory>
+) -> bool
     requires known { IsKnown (reverse entries.now) known.now }
     requires puts { puts ≡ put_publishes (reverse entries.now) }
-    ensures { IfOk result (λ may. may
-        ≡ may_be_refused_lem command.now at (reverse entries.now) cause.now) }
+    requires documents { CountsNewest (reverse entries.now) (Event.Refused cause.now) documents }
+    ensures { result ≡ may_be_refused_lem command.now at (reverse entries.now) cause.now }
 {
     match command {
-        LineCommand::Publish => may_refuse_publish(alloc, puts, known, entries, cause),
-        LineCommand::Merge(_) => Ok(may_refuse_merge(known, entries, cause)),
-        LineCommand::Reopen(n) => Ok(may_refuse_reopening(*n, at, entries, cause)),
-        _ => Ok(false),
+        LineCommand::Publish => may_refuse_publish(documents, puts, known, entries, cause),
+        LineCommand::Merge(_) => may_refuse_merge(known, entries, cause),
+        LineCommand::Reopen(n) => may_refuse_reopening(*n, at, entries, cause),
+        _ => false,
     }
 }
 

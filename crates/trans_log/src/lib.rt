@@ -1,4 +1,5 @@
-//! The log of accepted operations: one file a record, written so that no acknowledged record is lost.
+//! The log of accepted operations: one file a record, written so that no acknowledged record is lost. It knows a directory and operations,
+//! and no index, so it is a crate of its own.
 #![tactic(auto)]
 
 mod log;

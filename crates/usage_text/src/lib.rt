@@ -1,4 +1,4 @@
-//! What the program says of itself: its help, its version, and what is wrong with words that are no command.
+//! What the program says of itself: its help, its version, and what is wrong with words that are no command. It alone stands on `clap`.
 #![tactic(auto)]
 
 use clap::builder::ValueParser;
@@ -15,6 +15,8 @@ const ABOUT: &str = "Near-real-time segment replication as in Lucene, every step
 
 const USAGE: &str = "nrt run < SCRIPT\n\
     \x20      nrt load N\n\
+    \x20      nrt image N < SCRIPT\n\
+    \x20      nrt send N < SCRIPT\n\
     \x20      nrt check < IMAGE\n\
     \x20      nrt frames < STREAM\n\
     \x20      nrt judge < SCRIPT_AND_REPORT\n\
@@ -40,7 +42,9 @@ const NOTES: &str = "EXAMPLE of a script:\n\
     \x20   8   check: something is wrong with the directory\n\
     \x20   9   check: the input is no image of a directory\n\
     \x20   10  frames: the stream is bad\n\
-    \x20   11  judge: the report is not that of a legal history";
+    \x20   11  judge: the report is not that of a legal history\n\
+    \x20   12  image, send: the script has fewer nodes\n\
+    \x20   13  send: no copy to that node can begin";
 
 /// The word that may stand behind `picture`.
 const FORMS: &[&str] = &["svg"];
@@ -63,6 +67,25 @@ fn number<'a>(alloc: Global, most: u64, help: &'a str) -> Arg<'a> {
         .help(help)
 }
 
+/// A program with the commands on a node, N from 1 to 16, behind its others.
+fn with_nodes<'a>(alloc: Global, program: Command<'a>) -> Result<Command<'a>, AllocError> {
+    let image = row(
+        alloc,
+        "image",
+        "nrt image N < SCRIPT",
+        "Run the script on standard input; write the image of the directory of node N",
+    );
+    let send = row(
+        alloc,
+        "send",
+        "nrt send N < SCRIPT",
+        "Run the script on standard input; write the frames that a copy to node N takes",
+    );
+    program
+        .subcommand(image.arg(number(alloc, 16, "which node"))?)?
+        .subcommand(send.arg(number(alloc, 16, "which node"))?)
+}
+
 /// The program, as a command with its commands.
 fn program<'a>(alloc: Global) -> Result<Command<'a>, AllocError> {
     let load = row(
@@ -78,7 +101,7 @@ fn program<'a>(alloc: Global) -> Result<Command<'a>, AllocError> {
         "Run the script on standard input, or judge the report behind it; write a picture, or a drawing (svg)",
     );
     let form = Arg::new(alloc, "svg").value_parser(FORMS);
-    Command::new(alloc, "nrt")
+    let program = Command::new(alloc, "nrt")
         .version(VERSION)
         .about(ABOUT)
         .override_usage(USAGE)
@@ -91,7 +114,8 @@ fn program<'a>(alloc: Global) -> Result<Command<'a>, AllocError> {
             "nrt run < SCRIPT",
             "Run the script on standard input; write its report",
         ))?
-        .subcommand(load.arg(number(alloc, 10000, "how many documents"))?)?
+        .subcommand(load.arg(number(alloc, 10000, "how many documents"))?)?;
+    with_nodes(alloc, program)?
         .subcommand(row(
             alloc,
             "check",

@@ -1,5 +1,5 @@
 -- What the body of a message spells is read from it, and nothing else.
-use Rattle.std.proofs.Common.{◌≡◌, ℕ, zero, suc, ◌+◌, ◌*◌, ◌/◌, ◌%◌, ◌<◌, ◌≤◌, ◌⊎◌, Bool, true, false, cond, List, [], ◌∷◌, ◌++◌, length, take, drop, Option, Some, None, refl, sym, ap, subst, ◌∙◌, append_assoc, arith, inl, inr}
+use Rattle.std.proofs.Common.{◌≡◌, ℕ, zero, suc, ◌+◌, ◌*◌, ◌/◌, ◌%◌, ◌^◌, ◌<◌, ◌≤◌, ◌⊎◌, Bool, true, false, cond, List, [], ◌∷◌, ◌++◌, length, take, drop, Option, Some, None, refl, sym, ap, subst, ◌∙◌, append_assoc, arith, inl, inr}
 use Rattle.std.specs.Prelude.{◌==◌, ◌&&◌, nat_lt, nat_le, IsTrue}
 use Rattle.std.proofs.lemmas.Bool.{and_parts, and_from, eqb-true, leb-true, ltb-true, ltb-false, lt-ltb, le-leb, le-ltb}
 use Rattle.std.proofs.lemmas.Option.{same_Some, some_pair_parts}
@@ -16,7 +16,7 @@ use Rattle.body_forms.proofs.Numerals.{string_format}
 use Rattle.body_forms.proofs.NumberLaws.{u64_format, Small, Large, two_large_then_two}
 use Rattle.wire_frames.specs.declared.message.Message.{Message}
 use Rattle.wire_frames.specs.declared.message.Message.TheVariants.{Notice, State, File, Completed, Chunk}
-use Rattle.wire_frames.specs.Wire.{message_kind, meta_bytes, message_body, HasParts, longest_chunk}
+use Rattle.wire_frames.specs.Wire.{message_kind, meta_bytes, message_body, frame_of, wire_of, HasParts, IsFramable, longest_chunk}
 use Rattle.wire_frames.specs.Reading.{tested_string_at, name_at, header_at, footer_at, notice_at, state_at, file_at, chunk_at, all_read, state_read, chunk_read, notice_from, file_from, message_in}
 
 -- a vInt has five bytes at most
@@ -39,6 +39,31 @@ four_put o a b c d o1 o2 o3 o4 p q r s =
 
 pub five_put : (o a b c d e o1 o2 o3 o4 o5 : List ℕ) → o1 ≡ o ++ a → o2 ≡ o1 ++ b → o3 ≡ o2 ++ c → o4 ≡ o3 ++ d → o5 ≡ o4 ++ e → o5 ≡ o ++ (a ++ (b ++ (c ++ (d ++ e))))
 five_put o a b c d e o1 o2 o3 o4 o5 p q r s t = t ∙ ap (λ (x : List ℕ). x ++ e) (four_put o a b c d o1 o2 o3 o4 p q r s) ∙ simp append_assoc
+
+-- the head of a chunk's frame as it was put, and the bytes behind it, are the frame
+pub chunk_put : (name text bytes : List ℕ) (at size : ℕ) (o o1 o2 o3 o4 : List ℕ) → o ≡ [] → text ≡ name → size ≡ length (string text) + 8 + length bytes
+    → o1 ≡ o ++ u32_bytes (1 + size) → o2 ≡ o1 ++ 5 ∷ [] → o3 ≡ o2 ++ string text → o4 ≡ o3 ++ u64_bytes at → o4 ++ bytes ≡ wire_of (Chunk name at bytes)
+unfolding frame_of message_body
+chunk_put name text bytes at size o o1 o2 o3 o4 none same is p q r s =
+    let all : o4 ≡ u32_bytes (1 + size) ++ 5 ∷ (string text ++ u64_bytes at) =
+    four_put [] (u32_bytes (1 + size)) (5 ∷ []) (string text) (u64_bytes at) o1 o2 o3 o4 (p ∙ ap (λ (x : List ℕ). x ++ u32_bytes (1 + size)) none) q r s in
+    let a = length-append (string text ++ u64_bytes at) bytes in
+    let b = length-append (string text) (u64_bytes at) in
+    let n : length (u64_bytes at) ≡ 8 = refl in
+    let long : size ≡ length ((string text ++ u64_bytes at) ++ bytes) = omega (arith, is, a, b, n) in
+    ap (λ (x : List ℕ). x ++ bytes) all
+    ∙ append_assoc (u32_bytes (1 + size)) (5 ∷ (string text ++ u64_bytes at)) bytes
+    ∙ ap (λ (k : ℕ). u32_bytes (1 + k) ++ 5 ∷ ((string text ++ u64_bytes at) ++ bytes)) long
+    ∙ ap (λ (t : List ℕ). u32_bytes (1 + length ((string t ++ u64_bytes at) ++ bytes)) ++ 5 ∷ ((string t ++ u64_bytes at) ++ bytes)) same
+
+pub chunk_fits : (name text bytes : List ℕ) (at : ℕ) → text ≡ name → IsTrue (is_file_name name) → at < 2 ^ 64 → 0 < length bytes → length bytes ≤ longest_chunk → length (string text) ≤ 413 → IsFramable (Chunk name at bytes)
+unfolding message_body
+chunk_fits name text bytes at same named place some most short =
+    let a = length-append (string name ++ u64_bytes at) bytes in
+    let b = length-append (string name) (u64_bytes at) in
+    let n : length (u64_bytes at) ≡ 8 = refl in
+    let like = ap (λ (t : List ℕ). length (string t)) same in
+    record { parts = ((named, place), (some, most)); short = omega (arith, most, short, a, b, n, like) }
 
 -- what was put at the end leaves the front
 pub take_front : (a b c : List ℕ) → take (length a) b ≡ a → take (length b) c ≡ b → take (length a) c ≡ a

@@ -1,11 +1,14 @@
 //! Messages, taken from a stream that comes in pieces.
 
-ghost use Rattle.std.specs.Prelude.{◌≡◌, ◌⊎◌, ◌++◌, ◌≤◌, [], length, drop, Err, OnOk, OnErr, IfOk, IfErr};
+ghost use Rattle.std.specs.Prelude.{◌≡◌, ◌⊎◌, ◌++◌, ◌≤◌, [], ◌∷◌, length, drop, Err, OnOk, OnErr, IfOk, IfErr, IfSome};
 ghost use Rattle.wire_frames.specs.Streams.{BeginsWith, AreMessagesOf, IsUnfinished, IsStreamFault, IsCauseOf, TellsFront};
 
+use crate::encoding::chunk_head;
 use crate::message::{Message, WireFault};
-use crate::parts::{made, next_parts};
-use nrt_base::NoMemory;
+use crate::parts::{LONGEST_CHUNK, made, name_of, next_parts};
+use body_forms::{u32_of, u64_of};
+use bytes::Bytes;
+use nrt_base::{NoMemory, Share};
 use std::alloc::Global;
 use std::marker::Model;
 
@@ -92,6 +95,51 @@ fn take_in(alloc: Global, held: &mut Vec<u8>, piece: &[u8]) -> Result<Vec<Messag
     }
 }
 
+// The chunk that ends with a piece: what is held is the head of its frame, and the piece just its bytes, which are shared.
+fn ending_chunk(alloc: Global, held: &[u8], piece: &Bytes) -> Result<Option<Message>, NoMemory>
+    ensures { IfOk result (λ found. IfSome found (λ chunk.
+        BeginsWith (held.now ++ piece.now) (chunk ∷ []) [])) }
+{
+    let Some((_, rest)) = u32_of(held) else {
+        return Ok(None);
+    };
+    let Some((_, rest)) = rest.split_first() else {
+        return Ok(None);
+    };
+    let Some((name, rest)) = name_of(rest) else {
+        return Ok(None);
+    };
+    let Some((at, _)) = u64_of(rest) else {
+        return Ok(None);
+    };
+    if piece.is_empty() || piece.len() > LONGEST_CHUNK {
+        return Ok(None);
+    }
+    let head = chunk_head(alloc, name, at, piece)?;
+    if head.as_slice() != held {
+        return Ok(None);
+    }
+    let bytes = piece.share(alloc)?;
+    Ok(Some(Message::Chunk { name, at, bytes }))
+}
+
+// Takes a piece in as `take_in` does, and shares its bytes where a chunk ends with it.
+fn take_shared(alloc: Global, held: &mut Vec<u8>, piece: &Bytes) -> Result<Vec<Message>, WireFault>
+    ensures read { IfOk result (λ messages.
+        BeginsWith (held.old.items ++ piece.now) messages.items held.new.items) }
+    ensures ended { IsUnfinished held.old.items → IsUnfinished held.new.items }
+    ensures cause { IfErr result (IsCauseOf (held.old.items ++ piece.now)) }
+    ensures same { OnErr result (held.new.items ≡ held.old.items) }
+{
+    let Some(chunk) = ending_chunk(alloc, held.as_slice(), piece)? else {
+        return take_in(alloc, held, piece.as_slice());
+    };
+    let mut messages = Vec::with_capacity(alloc, 1)?;
+    messages.push(chunk)?;
+    held.clear();
+    Ok(messages)
+}
+
 /// What has come of a stream and is no whole frame yet, seen as these bytes.
 #[derive(Debug, Drop)]
 pub struct Decoder {
@@ -136,6 +184,19 @@ impl Decoder {
         ensures err { OnErr result (self.new ≡ self.old) }
     {
         take_in(alloc, &mut self.held, piece)
+    }
+
+    /// Takes the next piece of the stream as `feed` does. Where what is held is the head of a chunk's frame and the piece just its
+    /// bytes, the message has the piece's own bytes, which are not copied.
+    #[tactic(auto, using(crate::proofs::StreamLaws::are_messages))]
+    pub fn feed_shared(&mut self, alloc: Global, piece: &Bytes) -> Result<Vec<Message>, WireFault>
+        ensures messages { IfOk result (λ messages.
+            AreMessagesOf (self.old ++ piece.now) messages.items self.new) }
+        ensures unfinished { IsUnfinished self.new }
+        ensures cause { IfErr result (IsCauseOf (self.old ++ piece.now)) }
+        ensures err { OnErr result (self.new ≡ self.old) }
+    {
+        take_shared(alloc, &mut self.held, piece)
     }
 
     /// How many bytes are held of a frame that is not whole.

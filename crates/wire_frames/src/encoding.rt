@@ -1,13 +1,17 @@
 //! Messages, put at the end of bytes.
 
-ghost use Rattle.std.specs.Prelude.{◌≡◌, ◌++◌, ◌∷◌, ◌+◌, ◌≤◌, ◌<◌, ◌^◌, length, take, OnOk, OnErr, codes};
+ghost use Rattle.std.specs.Prelude.{◌≡◌, ◌++◌, ◌∷◌, ◌+◌, ◌≤◌, ◌<◌, ◌^◌, length, take, OnOk, OnErr, IfOk, codes};
 ghost use Rattle.body_forms.specs.Numbers.{string, u32_bytes, u64_bytes};
-ghost use Rattle.wire_frames.specs.Wire.{message_kind, message_body, meta_bytes, state_numbers, wire_of, HasParts, CanEncode, IsFramable};
+ghost use Rattle.wire_frames.specs.declared.message.Message.TheVariants.{Chunk};
+ghost use Rattle.wire_frames.specs.Wire.{message_kind, message_body, meta_bytes, state_numbers, wire_of, longest_chunk, HasParts, CanEncode, IsFramable};
 
 use crate::message::Message;
 use body_forms::{push_string, push_u32, push_u64, vint_len};
+use bytes::Bytes;
 use copy_state::FileMetaData;
+use file_names::FileName;
 use nrt_base::{Gen, NoMemory, Version};
+use std::alloc::Global;
 
 /// The kinds of messages.
 pub(crate) const NOTICE: u8 = 1;
@@ -19,6 +23,9 @@ pub(crate) const FILE: u8 = 3;
 pub(crate) const COMPLETED: u8 = 4;
 
 pub(crate) const CHUNK: u8 = 5;
+
+/// How many bytes the frame of a chunk has at most beside those of the file.
+const MARGIN: usize = 78;
 
 // How many bytes a string has with its length.
 #[tactic(auto, using(crate::proofs::MessageLaws::vint_short))]
@@ -231,4 +238,39 @@ pub fn encode(m: &Message, out: &mut Vec<u8>) -> Result<(), NoMemory>
             Err(no_memory)
         }
     }
+}
+
+// That the frame of a chunk has its parts, and is not too long.
+#[tactic(auto, unfolding(crate::specs::Wire::message_body))]
+fn is_framable(name: FileName, at: u64, bytes: &Bytes)
+    requires some { 0 < length bytes.now }
+    requires most { length bytes.now ≤ longest_chunk }
+    ensures { IsFramable (Chunk name at bytes.now) }
+{
+    is_u64(at);
+    let _short = string_len(name.as_slice());
+}
+
+/// The head of a chunk's frame: all of it but the bytes of the file, which follow it and so need not be copied. It fails when out
+/// of memory.
+pub fn chunk_head(
+    alloc: Global,
+    name: FileName,
+    at: u64,
+    bytes: &Bytes,
+) -> Result<Vec<u8>, NoMemory>
+    requires some { 0 < length bytes.now }
+    requires most { length bytes.now ≤ longest_chunk }
+    ensures whole { IfOk result (λ head. head.items ++ bytes.now ≡ wire_of (Chunk name at bytes.now)) }
+    ensures framable { IsFramable (Chunk name at bytes.now) }
+{
+    is_framable(name, at, bytes);
+    let text = name.as_slice();
+    let size = string_len(text) + 8 + bytes.len();
+    let mut head = Vec::with_capacity(alloc, MARGIN)?;
+    push_u32(&mut head, 1 + size as u32)?;
+    head.push(CHUNK)?;
+    push_string(&mut head, text)?;
+    push_u64(&mut head, at)?;
+    Ok(head)
 }

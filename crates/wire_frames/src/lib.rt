@@ -11,7 +11,7 @@ mod running;
 mod states;
 
 pub use decoder::Decoder;
-pub use encoding::encode;
+pub use encoding::{chunk_head, encode};
 pub use message::{Message, StateFault, WireFault};
 pub use running::{FramesEnd, run_frames};
 pub use states::{state_messages, state_of};

@@ -20,7 +20,7 @@ use std::alloc::Global;
 const LONGEST_FRAME: u32 = 65_536;
 
 /// The most bytes of a chunk.
-const LONGEST_CHUNK: usize = 32_768;
+pub(crate) const LONGEST_CHUNK: usize = 32_768;
 
 /// The most bytes of the header of a file.
 const LONGEST_HEADER: usize = 408;
@@ -45,9 +45,9 @@ fn name_in(text: &[u8]) -> Option<FileName>
     }
 }
 
-// The name of a file at the front, and the bytes after it.
+/// The name of a file at the front, and the bytes after it.
 #[tactic(auto, unfolding(crate::specs::Reading::name_at))]
-fn name_of(bytes: &[u8]) -> Option<(FileName, &[u8])>
+pub(crate) fn name_of(bytes: &[u8]) -> Option<(FileName, &[u8])>
     ensures { option_map (λ x. (x.0, x.1.now)) result ≡ name_at bytes.now }
 {
     let (text, rest) = string_of(bytes)?;

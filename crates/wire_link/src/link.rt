@@ -1,14 +1,16 @@
 //! A link over another one.
 
-ghost use Rattle.std.specs.Prelude.{◌≡◌, ◌+◌, ◌<◌, ◌^◌, true, IfOk};
+ghost use Rattle.std.specs.Prelude.{◌≡◌, ◌+◌, ◌<◌, ◌^◌, length, true, IfOk};
 
-use crate::reading::{bytes_of, messages_of};
-use crate::sending::frames_of;
+use crate::reading::brought;
 use bytes::Bytes;
 use file_names::FileName;
 use link_model::{Link, LinkFault};
-use nrt_base::NoMemory;
+use nrt_base::{NoMemory, Share};
 use std::alloc::{AllocError, Global};
+
+/// How many bytes a chunk has at most.
+const CHUNK: usize = 32_768;
 
 // Whether the places of so many bytes from a place on are numbers that a frame has.
 fn has_places(at: usize, len: usize) -> bool
@@ -17,7 +19,24 @@ fn has_places(at: usize, len: usize) -> bool
     at.checked_add(len).is_some()
 }
 
-// The bytes of a file from a place on, as they come out of the frames that they are sent in.
+// The bytes of a file from a place on, chunk by chunk as they come out of their frames, joined.
+fn joined(alloc: Global, name: FileName, at: usize, bytes: &Bytes) -> Result<Bytes, NoMemory>
+    requires { at + length bytes.now < 2 ^ 64 }
+    ensures { IfOk result (λ read. read ≡ bytes.now) }
+{
+    let mut file = Vec::with_capacity(alloc, bytes.len())?;
+    let mut done = 0;
+    while done < bytes.len() {
+        let end = done + CHUNK.min(bytes.len() - done);
+        let part = bytes.slice(done..end)?;
+        let read = brought(alloc, name, (at + done) as u64, &part)?;
+        file.extend_from_slice(read.as_slice())?;
+        done = end;
+    }
+    Ok(Bytes::from_vec(file)?)
+}
+
+// The bytes of a file from a place on, as they come out of the frames that they are sent in. Those of one chunk are shared.
 fn sent(alloc: Global, name: FileName, at: usize, bytes: &Bytes) -> Result<Bytes, NoMemory>
     ensures { IfOk result (λ read. read ≡ bytes.now) }
 {
@@ -25,9 +44,13 @@ fn sent(alloc: Global, name: FileName, at: usize, bytes: &Bytes) -> Result<Bytes
     if !has_places(at, bytes.len()) {
         return Err(AllocError);
     }
-    let stream = frames_of(alloc, name, at as u64, bytes)?;
-    let messages = messages_of(alloc, stream.as_slice())?;
-    bytes_of(alloc, name, at as u64, messages.as_slice())
+    if bytes.is_empty() {
+        return bytes.share(alloc);
+    }
+    if bytes.len() <= CHUNK {
+        return brought(alloc, name, at as u64, bytes);
+    }
+    joined(alloc, name, at, bytes)
 }
 
 /// A link that hands on, by way of the frames that a peer would read, what the link that it wraps hands out. It is else that link.

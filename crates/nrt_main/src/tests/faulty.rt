@@ -12,7 +12,7 @@ use std::test::Fail;
 use std::thread::Threads;
 
 /// A run of a word over what the source holds: its status, and what the sink holds then.
-fn ran<R: Threads + Wait + Sync>(
+pub fn ran<R: Threads + Wait + Sync>(
     rt: &R,
     alloc: Global,
     word: &[u8],
@@ -47,14 +47,24 @@ fn report_of<R: Threads + Wait + Sync>(
     }
 }
 
+/// Whether a report of a script is judged to be legal.
+pub fn is_legal_report<R: Threads + Wait + Sync>(
+    rt: &R,
+    alloc: Global,
+    script: &[u8],
+    report: &[u8],
+) -> Result<bool, Fail> {
+    let mut both = script.to_vec(alloc)?;
+    both.extend_from_slice(b"report\n")?;
+    both.extend_from_slice(report)?;
+    let (status, _) = ran(rt, alloc, b"judge", both)?;
+    Ok(status == Status::Done)
+}
+
 /// Whether the report of a script is judged to be legal.
 fn is_legal<R: Threads + Wait + Sync>(rt: &R, alloc: Global, script: &[u8]) -> Result<bool, Fail> {
     let report = report_of(rt, alloc, script)?;
-    let mut both = script.to_vec(alloc)?;
-    both.extend_from_slice(b"report\n")?;
-    both.extend_from_slice(report.as_slice())?;
-    let (status, _) = ran(rt, alloc, b"judge", both)?;
-    Ok(status == Status::Done)
+    is_legal_report(rt, alloc, script, report.as_slice())
 }
 
 // A publish whose first file cannot be made: its operation stays for the next one.

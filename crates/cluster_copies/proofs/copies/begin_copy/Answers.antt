@@ -18,11 +18,13 @@ use Rattle.cluster_state.specs.Met.{met_in, with_met, ArePlanned}
 use Rattle.cluster_state.proofs.Ledgers.{asked_of, fresh_of, told_of, unbegun_of}
 use Rattle.cluster_state.proofs.MergingPaths.{two_parts, three_parts}
 use Rattle.cluster_state.proofs.MergingStill.{stand_shown, stand_kept, all_keep}
-use Rattle.cluster_state.proofs.MetStands.{on_any, behind, run_behind, met_as_told, now_behind}
+use Rattle.cluster_state.proofs.MetStands.{on_any, behind, run_behind, met_as_told, now_behind, fails_as_told}
 use Rattle.cluster_copies.proofs.CopyPaths.{can_begin, copy_path, copy_turn, copy_begun}
 use Rattle.cluster_copies.proofs.TakingOver.{taken_by}
 use Rattle.cluster_copies.proofs.JobMerges.{begun_stand}
 use Rattle.cluster_copies.proofs.Calls.{as_nodes, met_stands, altered_files, CopyCall, copy_unbegun, copy_starts, copy_primary, copy_behind, copy_older, copy_newest, copy_node, copy_source, copy_rule, copy_fails, copy_fail_turn, no_copy_path}
+use Rattle.cluster_state.proofs.KeptOthers.{all_kept, but_job}
+use Rattle.cluster_copies.proofs.KeptJobs.{altered_tells, begun_tells}
 use Rattle.cluster_copies.proofs.copies.begin_copy.Goals as goal
 
 pub is_fresh-requires : goal.is_fresh-requires
@@ -377,6 +379,11 @@ returns-in-Done-clause-ok g c =
     c.cluster.view_is c.in_ok-before.ensures.log (c.as_slice-met.ensures.value ∙ c.in_ok-before.ensures.met) refl refl refl)))
     (taken_by g.D.Dir.cells c.args.cluster.now _ _ c.cluster.inside.ledger c.cluster.inside.places.items c.begin_in.new.places.items c.args.p c.args.n c.in-Done.job c.cluster.view_is c.requires.running (two_parts c.cluster.invariant) c.files_last.ensures refl refl c.requires.source c.requires.node (subst (λ (x : Went ℕ). ByWent (λ number. BeginsIn g.D.Dir.cells c.args.p.0 c.args.n.0 number c.cluster.inside.places.items c.begin_in.new.places.items) (AltersIn g.D.Dir.cells c.args.p.0 c.cluster.inside.places.items c.begin_in.new.places.items) x) c.in-Done.is c.in_ok-begun.ensures.went))
 
+pub returns-in-Done-clause-rest : goal.returns-in-Done-clause-rest
+returns-in-Done-clause-rest g c =
+    but_job c.args.cluster.now _ _ _ _ _ _ _ c.cluster.inside.places.items c.begin_in.new.places.items (ap (λ (x : Run). x.rest) c.cluster.view_is) refl (c.keep.ensures.cut ∙ (c.note_copying.ensures.cut ∙ c.in_ok-before.ensures.cut)) c.args.n.0
+    (begun_tells g.D.Dir.cells c.args.p.0 c.args.n.0 c.in-Done.job c.cluster.inside.places.items c.begin_in.new.places.items (subst (λ (x : Went ℕ). ByWent (λ number. BeginsIn g.D.Dir.cells c.args.p.0 c.args.n.0 number c.cluster.inside.places.items c.begin_in.new.places.items) (AltersIn g.D.Dir.cells c.args.p.0 c.cluster.inside.places.items c.begin_in.new.places.items) x) c.in-Done.is c.in_ok-begun.ensures.went))
+
 pub must_have_risen-requires : goal.must_have_risen-requires
 must_have_risen-requires g c =
     let k : CopyCall g.D.Dir.cells c.args.cluster.now c.cluster.inside.ledger c.met_before.new.ledger c.cluster.inside.places.items c.cluster.inside.tasks c.args.at c.args.p c.args.n (record { 0 = c.newest.result }) = record {
@@ -482,7 +489,18 @@ returns-clause-ok g c =
           (c.show.ensures.log ∙ (ap (λ (l : Log). shown c.args.at (Refused DiskFault) ∷ l) c.note_copying-in-Failed.ensures.log
           ∙ ap (λ (x : Version). shown c.args.at (Refused DiskFault) ∷ shown c.args.at (Copying c.args.n x) ∷ with_met false c.args.at 1 c.as_slice-met.result.now (map (met_in g.D.FaultDir.planned) c.begin_in.new.places.items) c.met_before.new.ledger.log) (ap (λ (k : ℕ). let v : Version = record { 0 = k } in v) (told_of c.book-book.ensures.log newest_version c.newest.ensures ∙ ap (λ (r : Run). newest_version (printed r.log)) c.cluster.view_is)))) (c.show.ensures.nodes ∙ c.note_copying-in-Failed.ensures.nodes) (c.as_slice-met.ensures.value ∙ c.in_ok-before.ensures.met) refl refl refl;
       files = altered_files c.args.cluster.now _ c.cluster.inside.places.items c.begin_in.new.places.items (sym (ap (λ (r : Run). r.rest.jobs) c.cluster.view_is)) refl g.D.Dir.cells c.args.p.0 c.args.n.0 (subst (λ (x : Went ℕ). ByWent (λ number. BeginsIn g.D.Dir.cells c.args.p.0 c.args.n.0 number c.cluster.inside.places.items c.begin_in.new.places.items) (AltersIn g.D.Dir.cells c.args.p.0 c.cluster.inside.places.items c.begin_in.new.places.items) x) c.in-Failed.is c.in_ok-begun.ensures.went);
+      failed = record {
+        p = c.args.p;
+        primary = c.requires.primary;
+        risen = fails_as_told g.D.FaultDir.planned c.cluster.inside.places.items c.begin_in.new.places.items c.args.cluster.now _ c.cluster.inside.ledger c.args.p c.as_slice-met.result.now (map (met_in g.D.FaultDir.planned) c.begin_in.new.places.items) c.cluster.view_is
+            (c.as_slice-met.ensures.value ∙ c.in_ok-before.ensures.met) refl refl refl c.in_ok-must_have_risen-in-Failed.ensures;
+      };
     }
+
+pub returns-clause-rest : goal.returns-clause-rest
+returns-clause-rest g c =
+    all_kept c.args.cluster.now (record { ended = false; nodes = c.show.new.self.nodes; log = c.show.new.self.log; rest = _ }) _ _ _ _ _ _ c.cluster.inside.places.items c.begin_in.new.places.items (ap (λ (x : Run). x.rest) c.cluster.view_is) refl (c.show.ensures.cut ∙ (c.note_copying-in-Failed.ensures.cut ∙ c.in_ok-before.ensures.cut))
+    (altered_tells g.D.Dir.cells c.args.p.0 c.cluster.inside.places.items c.begin_in.new.places.items (subst (λ (x : Went ℕ). ByWent (λ number. BeginsIn g.D.Dir.cells c.args.p.0 c.args.n.0 number c.cluster.inside.places.items c.begin_in.new.places.items) (AltersIn g.D.Dir.cells c.args.p.0 c.cluster.inside.places.items c.begin_in.new.places.items) x) c.in-Failed.is c.in_ok-begun.ensures.went))
 
 pub invariant_of-cluster : goal.invariant_of-cluster
 invariant_of-cluster g c =

@@ -1,4 +1,4 @@
-use Rattle.std.proofs.Common.{true, ◌≢◌, ◌≤◌, ◌∙◌, ◌∷◌, List, ℕ, Some, None, ap, refl, sym, subst, arith, length, map, true≢false}
+use Rattle.std.proofs.Common.{true, false, ◌≢◌, ◌≤◌, ◌∙◌, ◌∷◌, List, ℕ, Some, None, ap, refl, sym, subst, arith, length, map, true≢false}
 use Rattle.std.proofs.lemmas.List.{length-map}
 use Rattle.nrt_base.specs.declared.numbers.Version.{Version}
 use Rattle.history_rules.specs.declared.cause.Cause.TheVariants.{DiskFault}
@@ -17,12 +17,14 @@ use Rattle.cluster_state.specs.PlansIn.{plans_in}
 use Rattle.cluster_state.proofs.Ledgers.{asked_of, legal_of, told_of}
 use Rattle.cluster_state.proofs.MergingPaths.{two_parts, three_parts}
 use Rattle.cluster_state.proofs.MergingStill.{stand_kept}
-use Rattle.cluster_state.proofs.MetStands.{on_any, behind, run_behind, met_as_told, now_behind}
+use Rattle.cluster_state.proofs.MetStands.{on_any, behind, run_behind, met_as_told, now_behind, fails_as_told}
 use Rattle.cluster_copies.proofs.CopyPaths.{can_begin_settling, settle_path, settle_turn, settle_job_begun}
 use Rattle.cluster_copies.proofs.TakingOver.{taken_by}
 use Rattle.cluster_copies.proofs.JobMerges.{begun_stand}
 use Rattle.cluster_copies.proofs.MetLines.{met_words, line_still, source_still, waits_still}
 use Rattle.cluster_copies.proofs.Calls.{as_nodes, met_stands, altered_files, SettleCall, settle_started, settle_line, settle_survives, settle_waits, settle_primary, settle_older, settle_newest, settle_source, settle_rule, settle_fail_turn, no_settle_path}
+use Rattle.cluster_state.proofs.KeptOthers.{all_kept, but_job}
+use Rattle.cluster_copies.proofs.KeptJobs.{altered_tells, begun_tells}
 use Rattle.cluster_copies.proofs.copies.begin_settling.Goals as goal
 
 pub is_unanswered-requires : goal.is_unanswered-requires
@@ -361,6 +363,11 @@ returns-in-Done-clause-ok g c =
     (line_still c.args.at c.args.cluster.now.log _ w c.requires.line) (waits_still c.args.at c.args.cluster.now.log _ w c.args.cluster.now.nodes c.args.v.0 c.args.n c.requires.waits) (source_still c.args.at c.args.cluster.now.log _ w c.requires.survives)
     (taken_by g.D.Dir.cells c.args.cluster.now _ _ c.cluster.inside.ledger c.cluster.inside.places.items c.begin_in.new.places.items c.args.p c.args.n c.in-Done.job c.cluster.view_is c.requires.running (two_parts c.cluster.invariant) c.files_last.ensures refl refl c.requires.source c.requires.waits.node (subst (λ (x : Went ℕ). ByWent (λ number. BeginsIn g.D.Dir.cells c.args.p.0 c.args.n.0 number c.cluster.inside.places.items c.begin_in.new.places.items) (AltersIn g.D.Dir.cells c.args.p.0 c.cluster.inside.places.items c.begin_in.new.places.items) x) c.in-Done.is c.in_ok-begun.ensures.went))
 
+pub returns-in-Done-clause-rest : goal.returns-in-Done-clause-rest
+returns-in-Done-clause-rest g c =
+    but_job c.args.cluster.now _ _ _ _ _ _ _ c.cluster.inside.places.items c.begin_in.new.places.items (ap (λ (x : Run). x.rest) c.cluster.view_is) refl (c.note_job.ensures.cut ∙ c.in_ok-before.ensures.cut) c.args.n.0
+    (begun_tells g.D.Dir.cells c.args.p.0 c.args.n.0 c.in-Done.job c.cluster.inside.places.items c.begin_in.new.places.items (subst (λ (x : Went ℕ). ByWent (λ number. BeginsIn g.D.Dir.cells c.args.p.0 c.args.n.0 number c.cluster.inside.places.items c.begin_in.new.places.items) (AltersIn g.D.Dir.cells c.args.p.0 c.cluster.inside.places.items c.begin_in.new.places.items) x) c.in-Done.is c.in_ok-begun.ensures.went))
+
 pub invariant_of-cluster-in-Failed : goal.invariant_of-cluster-in-Failed
 invariant_of-cluster-in-Failed g c =
     let k : SettleCall g.D.Dir.cells c.args.cluster.now c.cluster.inside.ledger c.met_before.new.ledger c.cluster.inside.places.items c.cluster.inside.tasks c.args.at c.args.p c.args.n (record { 0 = c.newest.result }) c.args.v = record {
@@ -392,7 +399,18 @@ returns-clause-ok g c =
       now = now_behind g.D.FaultDir.planned c.cluster.inside.places.items c.begin_in.new.places.items c.args.cluster.now _ c.cluster.inside.ledger c.met_before.new.ledger c.note_failed.new.ledger c.args.at c.as_slice-met.result.now (map (met_in g.D.FaultDir.planned) c.begin_in.new.places.items)
           (λ l. shown c.args.at (Refused DiskFault) ∷ l) c.cluster.view_is c.in_ok-before.ensures.log c.in_ok-before.ensures.nodes c.note_failed.ensures.log c.note_failed.ensures.nodes (c.as_slice-met.ensures.value ∙ c.in_ok-before.ensures.met) refl refl refl;
       files = altered_files c.args.cluster.now _ c.cluster.inside.places.items c.begin_in.new.places.items (sym (ap (λ (r : Run). r.rest.jobs) c.cluster.view_is)) refl g.D.Dir.cells c.args.p.0 c.args.n.0 (subst (λ (x : Went ℕ). ByWent (λ number. BeginsIn g.D.Dir.cells c.args.p.0 c.args.n.0 number c.cluster.inside.places.items c.begin_in.new.places.items) (AltersIn g.D.Dir.cells c.args.p.0 c.cluster.inside.places.items c.begin_in.new.places.items) x) c.in-Failed.is c.in_ok-begun.ensures.went);
+      failed = record {
+        p = c.args.p;
+        primary = c.requires.primary;
+        risen = fails_as_told g.D.FaultDir.planned c.cluster.inside.places.items c.begin_in.new.places.items c.args.cluster.now _ c.cluster.inside.ledger c.args.p c.as_slice-met.result.now (map (met_in g.D.FaultDir.planned) c.begin_in.new.places.items) c.cluster.view_is
+            (c.as_slice-met.ensures.value ∙ c.in_ok-before.ensures.met) refl refl refl c.in_ok-must_have_risen-in-Failed.ensures;
+      };
     }
+
+pub returns-clause-rest : goal.returns-clause-rest
+returns-clause-rest g c =
+    all_kept c.args.cluster.now (record { ended = false; nodes = c.note_failed.new.ledger.nodes; log = c.note_failed.new.ledger.log; rest = _ }) _ _ _ _ _ _ c.cluster.inside.places.items c.begin_in.new.places.items (ap (λ (x : Run). x.rest) c.cluster.view_is) refl (c.note_failed.ensures.cut ∙ c.in_ok-before.ensures.cut)
+    (altered_tells g.D.Dir.cells c.args.p.0 c.cluster.inside.places.items c.begin_in.new.places.items (subst (λ (x : Went ℕ). ByWent (λ number. BeginsIn g.D.Dir.cells c.args.p.0 c.args.n.0 number c.cluster.inside.places.items c.begin_in.new.places.items) (AltersIn g.D.Dir.cells c.args.p.0 c.cluster.inside.places.items c.begin_in.new.places.items) x) c.in-Failed.is c.in_ok-begun.ensures.went))
 
 pub invariant_of-cluster : goal.invariant_of-cluster
 invariant_of-cluster g c =

@@ -3,11 +3,12 @@ use Rattle.cluster_state.proofs.Ledgers.{asked_of, fresh_of, told_of}
 use Rattle.history_rules.specs.Nodes.{newest_version}
 use Rattle.history_rules.specs.Lines.{entries_of_line}
 use Rattle.history_book.specs.Log.{Log, printed}
-use Rattle.std.proofs.Common.{◌≡◌, [], refl}
+use Rattle.std.proofs.Common.{◌≡◌, [], refl, ◌∙◌}
 use Rattle.cluster_state.proofs.Turning.{fresh_turn_at}
 use Rattle.history_rules.specs.declared.entry.Event.TheVariants.{Copying, Copied}
 use Rattle.cluster_state.proofs.MergingPaths.{third_at}
 use Rattle.cluster_state.proofs.MergingStill.{stand_shown, all_keep}
+use Rattle.cluster_state.proofs.RestKept.{kept_rest}
 use Rattle.cluster_copies.proofs.copies.note_copied.Goals as goal
 
 pub show-requires-clause-rule : goal.show-requires-clause-rule
@@ -44,3 +45,7 @@ is_fresh-requires g c = asked_of (λ (l : Log). entries_of_line c.args.at (print
 
 pub show-requires-clause-turn : goal.show-requires-clause-turn
 show-requires-clause-turn g c = fresh_turn_at c.cluster.inside.ledger c.reserve.new.self c.args.at (Copying c.args.n (record { 0 = c.newest.result })) c.in_ok-reserve.ensures.log (fresh_of c.book-book.ensures.log c.is_fresh.ensures) tt
+
+pub returns-clause-rest : goal.returns-clause-rest
+returns-clause-rest g c =
+    kept_rest c.args.cluster.now _ _ c.cluster.view_is refl (c.show-2.ensures.cut ∙ (c.show.ensures.cut ∙ c.in_ok-reserve.ensures.cut)) refl refl refl refl

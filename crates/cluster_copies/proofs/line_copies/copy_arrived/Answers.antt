@@ -10,11 +10,13 @@ use Rattle.cluster_nodes.specs.declared.went.Went.{Went}
 use Rattle.cluster_nodes.specs.Went.{ByWent}
 use Rattle.cluster_state.specs.DueFaults.{MeetsFate, ArrivesBy}
 use Rattle.cluster_state.specs.FilesOut.{file_out}
-use Rattle.cluster_state.specs.Run.{Run, files_at, IsNow}
+use Rattle.cluster_state.specs.Run.{Run, files_at, IsNow, KeepsRest}
 use Rattle.cluster_state.specs.GivesUp.{met_log}
 use Rattle.cluster_state.specs.Copies.{BringsFile, JobRefused}
 use Rattle.cluster_state.specs.declared.turn.Turn.TheVariants.{Work, Done}
 use Rattle.cluster_copies.proofs.CopyRows.{runs_takes, runs_arrives, part_taken, part_fails}
+use Rattle.cluster_copies.proofs.KeptJobs.{none_moved, came_after}
+use Rattle.cluster_state.specs.Keeping.{KeepsButFiles}
 use Rattle.cluster_copies.proofs.line_copies.copy_arrived.Goals as goal
 
 -- ---- what is asked of a part, and of what kept it back
@@ -51,6 +53,10 @@ returns-in-Done-clause-goes g c = λ runs.
     (subst (λ (x : Went Unit). ByWent (λ done. IsNow c.is_stopped.new.state c.take_part.new.cluster (met_log c.args.row.job.at c.is_stopped.new.state c.take_part.new.cluster)) (JobRefused c.args.row.job DiskFault c.is_stopped.new.state c.take_part.new.cluster) x) c.in-Done.is c.in_ok-take_part-in-Ok.ensures.ok)
     (subst (λ (x : Went Unit). ByWent (λ done. BringsFile c.in-Ok.part.name (files_at c.args.row.job.node.0 c.is_stopped.new.state) (files_at c.args.row.job.node.0 c.take_part.new.cluster)) ⊤ x) c.in-Done.is c.in_ok-take_part-in-Ok.ensures.has))
 
+pub returns-in-Done-clause-rest : goal.returns-in-Done-clause-rest
+returns-in-Done-clause-rest g c =
+    came_after c.args.row.job.node.0 c.args.state.now c.is_stopped.new.state c.take_part.new.cluster (c.in_ok-is_stopped.ensures.same c.if-branch.false) (subst (λ (x : Went Unit). ByWent (λ done. KeepsButFiles c.args.row.job.node.0 c.is_stopped.new.state c.take_part.new.cluster) (KeepsRest c.is_stopped.new.state c.take_part.new.cluster) x) c.in-Done.is c.in_ok-take_part-in-Ok.ensures.rest)
+
 pub returns-in-Failed-clause-ok : goal.returns-in-Failed-clause-ok
 returns-in-Failed-clause-ok g c = λ begun is.
     runs_arrives c.args.row c.args.state.now c.is_stopped.new.state c.take_part.new.cluster (c.in_ok-is_stopped.ensures.same c.if-branch.false) c.args.file.now _ c.in_ok-is_stopped.field-0 Done c.if-branch.false (c.in_ok-is_stopped.ensures.ok begun is)
@@ -63,6 +69,10 @@ returns-in-Failed-clause-goes g c = λ runs.
     (part_fails c.args.row c.is_stopped.new.state c.take_part.new.cluster c.args.file.now c.in-Ok.part (subst (λ (r : Result Part JobFault). ArrivesBy c.args.file.now r) c.in-Ok.is c.requires.arrives)
     (subst (λ (x : Went Unit). ByWent (λ done. IsNow c.is_stopped.new.state c.take_part.new.cluster (met_log c.args.row.job.at c.is_stopped.new.state c.take_part.new.cluster)) (JobRefused c.args.row.job DiskFault c.is_stopped.new.state c.take_part.new.cluster) x) c.in-Failed.is c.in_ok-take_part-in-Ok.ensures.ok))
 
+pub returns-in-Failed-clause-rest : goal.returns-in-Failed-clause-rest
+returns-in-Failed-clause-rest g c =
+    came_after c.args.row.job.node.0 c.args.state.now c.is_stopped.new.state c.take_part.new.cluster (c.in_ok-is_stopped.ensures.same c.if-branch.false) (none_moved c.args.row.job.node.0 c.is_stopped.new.state c.take_part.new.cluster (subst (λ (x : Went Unit). ByWent (λ done. KeepsButFiles c.args.row.job.node.0 c.is_stopped.new.state c.take_part.new.cluster) (KeepsRest c.is_stopped.new.state c.take_part.new.cluster) x) c.in-Failed.is c.in_ok-take_part-in-Ok.ensures.rest))
+
 -- ---- none came
 
 pub returns-in_ok-refuse_part-in-Err-clause-ok : goal.returns-in_ok-refuse_part-in-Err-clause-ok
@@ -72,3 +82,11 @@ returns-in_ok-refuse_part-in-Err-clause-ok g c = λ begun is.
 pub returns-in_ok-refuse_part-in-Err-clause-goes : goal.returns-in_ok-refuse_part-in-Err-clause-goes
 returns-in_ok-refuse_part-in-Err-clause-goes g c = λ runs.
     runs_takes c.args.row c.args.state.now c.is_stopped.new.state c.refuse_part.new.cluster (c.in_ok-is_stopped.ensures.same c.if-branch.false) c.args.file.now Done c.in_ok-refuse_part-in-Err.ensures.ok
+
+pub returns-in_ok-refuse_part-in-Err-clause-rest : goal.returns-in_ok-refuse_part-in-Err-clause-rest
+returns-in_ok-refuse_part-in-Err-clause-rest g c =
+    came_after c.args.row.job.node.0 c.args.state.now c.is_stopped.new.state c.refuse_part.new.cluster (c.in_ok-is_stopped.ensures.same c.if-branch.false) (none_moved c.args.row.job.node.0 c.is_stopped.new.state c.refuse_part.new.cluster c.in_ok-refuse_part-in-Err.ensures.rest)
+
+pub returns-then-branch-clause-rest : goal.returns-then-branch-clause-rest
+returns-then-branch-clause-rest g c =
+    none_moved c.args.row.job.node.0 c.args.state.now c.is_stopped.new.state c.in_ok-is_stopped.ensures.rest

@@ -12,6 +12,9 @@ use Rattle.cluster_state.specs.FileChanges.{is_commit_line}
 use Rattle.cluster_state.specs.GivesUp.{met_log}
 use Rattle.cluster_copies.proofs.CopyRows.{settle_source}
 use Rattle.cluster_copies.proofs.MetLines.{settle_works}
+use Rattle.cluster_state.specs.Run.{KeepsRest}
+use Rattle.cluster_state.specs.Keeping.{KeepsButJob}
+use Rattle.nrt_base.specs.declared.numbers.NodeNo.{NodeNo}
 use Rattle.cluster_copies.proofs.line_settles.settle_next.Goals as goal
 
 pub has_no_commit-requires : goal.has_no_commit-requires
@@ -31,6 +34,12 @@ returns-in-Done-clause-ok g c =
       first = c.in-Some.ensures.first;
     }) (subst (λ (l : Log). IsNotBeingCopied l c.in-Some.n.0) c.book-3.ensures.log (c.is_being_copied.ensures.none c.if-is_being_copied.false))
 
+pub returns-in-Done-clause-rest : goal.returns-in-Done-clause-rest
+returns-in-Done-clause-rest g c =
+    subst (λ (m : NodeNo). KeepsButJob m.0 c.args.state.now c.begin_settling.new.cluster)
+    (sym (subst (λ (x : Went CopyTask). ByWent (BeginsJob c.args.at c.in-Some.n c.args.state.now c.begin_settling.new.cluster (met_log c.args.at c.args.state.now c.begin_settling.new.cluster)) (BeginsNoJob c.args.at c.in-Some.n c.args.state.now c.begin_settling.new.cluster (met_log c.args.at c.args.state.now c.begin_settling.new.cluster)) x) c.in-Done.is c.in_ok-job-in-Some-primary.ensures.ok).node)
+    (subst (λ (x : Went CopyTask). ByWent (λ task. KeepsButJob c.in-Some.n.0 c.args.state.now c.begin_settling.new.cluster) (KeepsRest c.args.state.now c.begin_settling.new.cluster) x) c.in-Done.is c.in_ok-job-in-Some-primary.ensures.rest)
+
 pub returns-in-Failed-clause-ok : goal.returns-in-Failed-clause-ok
 returns-in-Failed-clause-ok g c = inr (record {
   n = c.in-Some.n;
@@ -42,3 +51,7 @@ returns-in-Failed-clause-ok g c = inr (record {
   });
   free = (subst (λ (l : Log). IsNotBeingCopied l c.in-Some.n.0) c.book-3.ensures.log (c.is_being_copied.ensures.none c.if-is_being_copied.false));
 })
+
+pub returns-in-Failed-clause-rest : goal.returns-in-Failed-clause-rest
+returns-in-Failed-clause-rest g c =
+    subst (λ (x : Went CopyTask). ByWent (λ task. KeepsButJob c.in-Some.n.0 c.args.state.now c.begin_settling.new.cluster) (KeepsRest c.args.state.now c.begin_settling.new.cluster) x) c.in-Failed.is c.in_ok-job-in-Some-primary.ensures.rest

@@ -1,4 +1,4 @@
-use Rattle.std.proofs.Common.{true, ◌≡◌, ◌≢◌, ◌<◌, ◌≤◌, ◌∙◌, ◌∷◌, List, ℕ, false, Some, None, Option, ap, refl, sym, subst, arith, length, map, true≢false}
+use Rattle.std.proofs.Common.{true, ◌≡◌, ◌≢◌, ◌<◌, ◌≤◌, ◌∙◌, ◌∷◌, List, ℕ, false, Some, None, Option, ap, refl, sym, subst, arith, length, map, true≢false, inl, inr}
 use Rattle.std.proofs.lemmas.List.{length-map}
 use Rattle.codec_frame.specs.Bytes.{AreBytes}
 use Rattle.history_rules.specs.declared.cause.Cause.TheVariants.{DiskFault}
@@ -24,11 +24,13 @@ use Rattle.cluster_state.specs.Met.{met_in, with_met, ArePlanned}
 use Rattle.cluster_state.proofs.Ledgers.{asked_of, legal_of, turns_of, lane_of, replica_of}
 use Rattle.cluster_state.proofs.MergingPaths.{two_parts, three_parts}
 use Rattle.cluster_state.proofs.MergingStill.{stand_same, stand_kept, all_keep}
-use Rattle.cluster_state.proofs.MetStands.{on_any, behind, run_behind, now_behind, met_as_told}
+use Rattle.cluster_state.proofs.MetStands.{on_any, behind, run_behind, now_behind, met_as_told, fails_as_told}
 use Rattle.cluster_copies.proofs.HandPaths.{next_slot, next_job, can_read, hand_path, first_of, same_files, hand_meta, hand_footer}
 use Rattle.cluster_copies.proofs.Ending.{can_finish, can_stop, copy_here, finish_path}
 use Rattle.cluster_copies.proofs.TransferMerges.{read_stand, ended_stand, finished_stand}
 use Rattle.cluster_copies.proofs.Calls.{as_nodes, met_stands, JobCall, behind_due, run_due, due_stand, fetches_met, alive1, runs_due, lane_due, replica_due, primary_due, meets_due, runs_met, lane_met, replica_met, source_met, primary_met, begun_met, node_rule, source_rule, refused_turn, refused_path, refused_files}
+use Rattle.cluster_state.proofs.KeptOthers.{all_kept}
+use Rattle.cluster_copies.proofs.KeptJobs.{read_tells, stopped_kept, ended_kept, none_moved}
 use Rattle.cluster_copies.proofs.transfers.go_on.Goals as goal
 
 pub is_unanswered-requires : goal.is_unanswered-requires
@@ -240,6 +242,30 @@ returns-in-Done-clause-ok g c =
     (λ l. ended_log c.args.row.job (start_entry c.args.row.job.at (printed c.args.cluster.now.log)) l) c.cluster.view_is c.in_ok-before.ensures.log c.in_ok-before.ensures.nodes
     (c.note_ended.ensures.log ∙ ap (λ (l : Log). ended_log c.args.row.job (start_entry c.args.row.job.at (printed l)) (with_met false c.args.row.job.at 1 c.as_slice-met.result.now (map (met_in g.D.FaultDir.planned) c.finish_in.new.places.items) c.met_before.new.ledger.log)) (c.in_ok-before.ensures.log ∙ ap (λ (r : Run). r.log) c.cluster.view_is)) c.note_ended.ensures.nodes (c.as_slice-met.ensures.value ∙ c.in_ok-before.ensures.met) refl refl refl
 
+pub returns-in-Done-clause-rest : goal.returns-in-Done-clause-rest
+returns-in-Done-clause-rest g c =
+    let k : JobCall g.D.Dir.cells c.args.cluster.now c.cluster.inside.ledger c.met_before.new.ledger c.cluster.inside.places.items c.cluster.inside.tasks c.args.row c.source_of-p.result = record {
+      call = record {
+        ended = _;
+        left = _;
+        view = c.cluster.view_is;
+        running = c.requires.running;
+        all = c.cluster.invariant;
+        e1 = c.in_ok-before.ensures.log;
+        n1 = c.in_ok-before.ensures.nodes;
+        c1 = c.in_ok-before.ensures.cut;
+      };
+      runs = c.requires.runs;
+      line = c.requires.line;
+      ordered = c.requires.ordered;
+      legal = legal_of c.book-book.ensures.nodes c.book-book.ensures.log c.is_legal.ensures.legal;
+      lane = lane_of c.book-book.ensures.nodes c.book-book.ensures.log c.job_shows.ensures;
+      replica = replica_of c.book-book.ensures.log c.job_replica.ensures;
+      node_p = c.source_of-p.ensures.node;
+      primary = c.source_of-p.ensures.is;
+    } in
+    ended_kept k _ _ _ _ _ _ c.finish_in.new.places.items (ap (λ (x : Run). x.rest) c.cluster.view_is) refl (c.note_ended.ensures.cut ∙ c.in_ok-before.ensures.cut) (subst (λ (x : Went Unit). ByWent (λ done. FinishesIn g.D.Dir.cells c.source_of-p.result.0 c.args.row.job.node.0 c.cluster.inside.places.items c.finish_in.new.places.items) (StopsIn g.D.Dir.cells None c.source_of-p.result.0 c.args.row.job.node.0 c.cluster.inside.places.items c.finish_in.new.places.items) x) c.in-Done.is c.in_ok-finished-in-None.ensures.went)
+
 pub note_refused-requires-clause-room : goal.note_refused-requires-clause-room
 note_refused-requires-clause-room g c =
     let room = c.in_ok-before.ensures.room in
@@ -430,7 +456,33 @@ returns-in-None-clause-ok g c =
           (λ l. kept (JobEnd c.args.row.job.at.line c.args.row.job.node c.args.row.job.number) ∷ shown c.args.row.job.at (Refused DiskFault) ∷ l) c.cluster.view_is c.in_ok-before.ensures.log c.in_ok-before.ensures.nodes
           c.note_refused.ensures.log c.note_refused.ensures.nodes (c.as_slice-met.ensures.value ∙ c.in_ok-before.ensures.met) refl refl refl;
       files = refused_files k _ c.finish_in.new.places.items None (subst (λ (x : Went Unit). ByWent (λ done. FinishesIn g.D.Dir.cells c.source_of-p.result.0 c.args.row.job.node.0 c.cluster.inside.places.items c.finish_in.new.places.items) (StopsIn g.D.Dir.cells None c.source_of-p.result.0 c.args.row.job.node.0 c.cluster.inside.places.items c.finish_in.new.places.items) x) c.in-Failed.is c.in_ok-finished-in-None.ensures.went) (sym (ap (λ (r : Run). r.rest.jobs) c.cluster.view_is)) refl;
+      failed = inr (fails_as_told g.D.FaultDir.planned c.cluster.inside.places.items c.finish_in.new.places.items c.args.cluster.now _ c.cluster.inside.ledger c.args.row.job.node c.as_slice-met.result.now (map (met_in g.D.FaultDir.planned) c.finish_in.new.places.items) c.cluster.view_is
+          (c.as_slice-met.ensures.value ∙ c.in_ok-before.ensures.met) refl refl refl c.in_ok-must_have_risen-in-Failed.ensures);
     }
+
+pub returns-in-None-clause-rest : goal.returns-in-None-clause-rest
+returns-in-None-clause-rest g c =
+    let k : JobCall g.D.Dir.cells c.args.cluster.now c.cluster.inside.ledger c.met_before.new.ledger c.cluster.inside.places.items c.cluster.inside.tasks c.args.row c.source_of-p.result = record {
+      call = record {
+        ended = _;
+        left = _;
+        view = c.cluster.view_is;
+        running = c.requires.running;
+        all = c.cluster.invariant;
+        e1 = c.in_ok-before.ensures.log;
+        n1 = c.in_ok-before.ensures.nodes;
+        c1 = c.in_ok-before.ensures.cut;
+      };
+      runs = c.requires.runs;
+      line = c.requires.line;
+      ordered = c.requires.ordered;
+      legal = legal_of c.book-book.ensures.nodes c.book-book.ensures.log c.is_legal.ensures.legal;
+      lane = lane_of c.book-book.ensures.nodes c.book-book.ensures.log c.job_shows.ensures;
+      replica = replica_of c.book-book.ensures.log c.job_replica.ensures;
+      node_p = c.source_of-p.ensures.node;
+      primary = c.source_of-p.ensures.is;
+    } in
+    stopped_kept k (record { ended = false; nodes = c.note_refused.new.ledger.nodes; log = c.note_refused.new.ledger.log; rest = _ }) _ _ _ _ _ c.finish_in.new.places.items (ap (λ (x : Run). x.rest) c.cluster.view_is) refl (c.note_refused.ensures.cut ∙ c.in_ok-before.ensures.cut) None (subst (λ (x : Went Unit). ByWent (λ done. FinishesIn g.D.Dir.cells c.source_of-p.result.0 c.args.row.job.node.0 c.cluster.inside.places.items c.finish_in.new.places.items) (StopsIn g.D.Dir.cells None c.source_of-p.result.0 c.args.row.job.node.0 c.cluster.inside.places.items c.finish_in.new.places.items) x) c.in-Failed.is c.in_ok-finished-in-None.ensures.went)
 
 pub read_for_in-requires-clause-read : goal.read_for_in-requires-clause-read
 read_for_in-requires-clause-read g c =
@@ -722,6 +774,11 @@ returns-in-Done-read-clause-ok g c =
       footer = hand_footer g.D.Dir.cells c.args.cluster.now _ c.cluster.inside.ledger _ c.args.row c.cluster.view_is c.requires.running (two_parts c.cluster.invariant) c.requires.runs (lane_of c.book-book.ensures.nodes c.book-book.ensures.log c.job_shows.ensures) (replica_of c.book-book.ensures.log c.job_replica.ensures) _ c.source_of-p.result c.in-Some.file.0 c.in-Some.file.1 c.in-Done-read.source c.files_last.ensures c.source_of-p.ensures.node (subst (HasNextFile (place_of c.cluster.inside.places.items c.args.row.job.node.0)) c.in-Some.is c.in_ok-next_in.ensures) (subst (λ (x : Went (List ℕ)). ByWent (λ bytes. ReadsIn g.D.Dir.cells c.source_of-p.result.0 c.in-Some.file.0 bytes c.cluster.inside.places.items c.read_for_in.new.places.items) (StopsIn g.D.Dir.cells None c.source_of-p.result.0 c.args.row.job.node.0 c.cluster.inside.places.items c.read_for_in.new.places.items) x) c.in-Done-read.is c.in_ok-read-in-Some.ensures.went) (subst AreBytes c.as_slice.ensures c.are_bytes.ensures);
     }
 
+pub returns-in-Done-read-clause-rest : goal.returns-in-Done-read-clause-rest
+returns-in-Done-read-clause-rest g c =
+    none_moved c.args.row.job.node.0 c.args.cluster.now _ (all_kept c.args.cluster.now (record { ended = false; nodes = c.note_file-fate.new.ledger.nodes; log = c.note_file-fate.new.ledger.log; rest = _ }) _ _ _ _ _ _ c.cluster.inside.places.items c.read_for_in.new.places.items (ap (λ (x : Run). x.rest) c.cluster.view_is) refl (c.note_file-fate.ensures.cut ∙ c.in_ok-before.ensures.cut)
+    (read_tells g.D.Dir.cells c.source_of-p.result.0 c.in-Some.file.0 c.in-Done-read.source c.cluster.inside.places.items c.read_for_in.new.places.items (subst (λ (x : Went (List ℕ)). ByWent (λ bytes. ReadsIn g.D.Dir.cells c.source_of-p.result.0 c.in-Some.file.0 bytes c.cluster.inside.places.items c.read_for_in.new.places.items) (StopsIn g.D.Dir.cells None c.source_of-p.result.0 c.args.row.job.node.0 c.cluster.inside.places.items c.read_for_in.new.places.items) x) c.in-Done-read.is c.in_ok-read-in-Some.ensures.went)))
+
 pub note_refused-requires-in-Failed-read-clause-room : goal.note_refused-requires-in-Failed-read-clause-room
 note_refused-requires-in-Failed-read-clause-room g c =
     let room = c.in_ok-before.ensures.room in
@@ -912,7 +969,37 @@ returns-clause-ok g c =
           (λ l. kept (JobEnd c.args.row.job.at.line c.args.row.job.node c.args.row.job.number) ∷ shown c.args.row.job.at (Refused DiskFault) ∷ l) c.cluster.view_is c.in_ok-before.ensures.log c.in_ok-before.ensures.nodes
           c.note_refused-in-Failed-read.ensures.log c.note_refused-in-Failed-read.ensures.nodes (c.as_slice-met.ensures.value ∙ c.in_ok-before.ensures.met) refl refl refl;
       files = refused_files k _ c.read_for_in.new.places.items None (subst (λ (x : Went (List ℕ)). ByWent (λ bytes. ReadsIn g.D.Dir.cells c.source_of-p.result.0 c.in-Some.file.0 bytes c.cluster.inside.places.items c.read_for_in.new.places.items) (StopsIn g.D.Dir.cells None c.source_of-p.result.0 c.args.row.job.node.0 c.cluster.inside.places.items c.read_for_in.new.places.items) x) c.in-Failed-read.is c.in_ok-read-in-Some.ensures.went) (sym (ap (λ (r : Run). r.rest.jobs) c.cluster.view_is)) refl;
+      failed = inl (record {
+        p = c.source_of-p.result;
+        primary = c.source_of-p.ensures.is;
+        risen = fails_as_told g.D.FaultDir.planned c.cluster.inside.places.items c.read_for_in.new.places.items c.args.cluster.now _ c.cluster.inside.ledger c.source_of-p.result c.as_slice-met.result.now (map (met_in g.D.FaultDir.planned) c.read_for_in.new.places.items) c.cluster.view_is
+            (c.as_slice-met.ensures.value ∙ c.in_ok-before.ensures.met) refl refl refl c.in_ok-must_have_risen-in-Failed-read.ensures;
+      });
     }
+
+pub returns-clause-rest : goal.returns-clause-rest
+returns-clause-rest g c =
+    let k : JobCall g.D.Dir.cells c.args.cluster.now c.cluster.inside.ledger c.met_before.new.ledger c.cluster.inside.places.items c.cluster.inside.tasks c.args.row c.source_of-p.result = record {
+      call = record {
+        ended = _;
+        left = _;
+        view = c.cluster.view_is;
+        running = c.requires.running;
+        all = c.cluster.invariant;
+        e1 = c.in_ok-before.ensures.log;
+        n1 = c.in_ok-before.ensures.nodes;
+        c1 = c.in_ok-before.ensures.cut;
+      };
+      runs = c.requires.runs;
+      line = c.requires.line;
+      ordered = c.requires.ordered;
+      legal = legal_of c.book-book.ensures.nodes c.book-book.ensures.log c.is_legal.ensures.legal;
+      lane = lane_of c.book-book.ensures.nodes c.book-book.ensures.log c.job_shows.ensures;
+      replica = replica_of c.book-book.ensures.log c.job_replica.ensures;
+      node_p = c.source_of-p.ensures.node;
+      primary = c.source_of-p.ensures.is;
+    } in
+    stopped_kept k (record { ended = false; nodes = c.note_refused-in-Failed-read.new.ledger.nodes; log = c.note_refused-in-Failed-read.new.ledger.log; rest = _ }) _ _ _ _ _ c.read_for_in.new.places.items (ap (λ (x : Run). x.rest) c.cluster.view_is) refl (c.note_refused-in-Failed-read.ensures.cut ∙ c.in_ok-before.ensures.cut) None (subst (λ (x : Went (List ℕ)). ByWent (λ bytes. ReadsIn g.D.Dir.cells c.source_of-p.result.0 c.in-Some.file.0 bytes c.cluster.inside.places.items c.read_for_in.new.places.items) (StopsIn g.D.Dir.cells None c.source_of-p.result.0 c.args.row.job.node.0 c.cluster.inside.places.items c.read_for_in.new.places.items) x) c.in-Failed-read.is c.in_ok-read-in-Some.ensures.went)
 
 pub invariant_of-cluster : goal.invariant_of-cluster
 invariant_of-cluster g c =

@@ -17,9 +17,10 @@ use Rattle.cluster_state.proofs.MergingPaths.{two_parts}
 use Rattle.cluster_state.proofs.MetStands.{on_any, behind, run_behind, now_behind}
 use Rattle.cluster_state.proofs.Arrivals.{not_whole}
 use Rattle.cluster_copies.proofs.HandPaths.{next_slot, next_job, named_drawn}
-use Rattle.cluster_copies.proofs.DueLines.{fate_told}
+use Rattle.cluster_copies.proofs.DueLines.{fate_told, fate_spared}
 use Rattle.cluster_copies.proofs.Ending.{can_stop}
 use Rattle.cluster_copies.proofs.Calls.{as_nodes, met_stands, JobCall, runs_met, lane_met, replica_met, file_rule, broken_turn, refused_path, refused_files}
+use Rattle.cluster_copies.proofs.KeptJobs.{stopped_kept}
 use Rattle.cluster_copies.proofs.transfers.refuse_part.Goals as goal
 
 pub is_unanswered-requires : goal.is_unanswered-requires
@@ -280,7 +281,32 @@ returns-clause-ok g c =
           (c.note_refused.ensures.log ∙ ap (λ (cause : Cause). kept (JobEnd c.args.row.job.at.line c.args.row.job.node c.args.row.job.number) ∷ shown c.args.row.job.at (Refused cause) ∷ with_met false c.args.row.job.at 1 c.as_slice-met.result.now (map (met_in g.D.FaultDir.planned) c.stop_job_in.new.places.items) c.met_before.new.ledger.log) c.cause_of-cause.ensures)
           c.note_refused.ensures.nodes (c.as_slice-met.ensures.value ∙ c.in_ok-before.ensures.met) refl refl refl;
       files = refused_files k _ c.stop_job_in.new.places.items None c.in_ok-stop_job_in.ensures.stopped (sym (ap (λ (r : Run). r.rest.jobs) c.cluster.view_is)) refl;
+      failed = fate_spared c.args.file.now.fate c.args.file.now.name c.args.row.job.node c.args.cluster.now _ (not_whole c.args.file.now c.args.fault c.requires.arrives);
     }
+
+pub returns-clause-rest : goal.returns-clause-rest
+returns-clause-rest g c =
+    let k : JobCall g.D.Dir.cells c.args.cluster.now c.cluster.inside.ledger c.met_before.new.ledger c.cluster.inside.places.items c.cluster.inside.tasks c.args.row c.source_of-p.result = record {
+      call = record {
+        ended = _;
+        left = _;
+        view = c.cluster.view_is;
+        running = c.requires.running;
+        all = c.cluster.invariant;
+        e1 = c.in_ok-before.ensures.log;
+        n1 = c.in_ok-before.ensures.nodes;
+        c1 = c.in_ok-before.ensures.cut;
+      };
+      runs = c.requires.runs;
+      line = c.requires.line;
+      ordered = c.requires.ordered;
+      legal = legal_of c.book-book.ensures.nodes c.book-book.ensures.log c.is_legal.ensures.legal;
+      lane = lane_of c.book-book.ensures.nodes c.book-book.ensures.log c.job_shows.ensures;
+      replica = replica_of c.book-book.ensures.log c.job_replica.ensures;
+      node_p = c.source_of-p.ensures.node;
+      primary = c.source_of-p.ensures.is;
+    } in
+    stopped_kept k (record { ended = false; nodes = c.note_refused.new.ledger.nodes; log = c.note_refused.new.ledger.log; rest = _ }) _ _ _ _ _ c.stop_job_in.new.places.items (ap (λ (x : Run). x.rest) c.cluster.view_is) refl (c.note_refused.ensures.cut ∙ c.in_ok-before.ensures.cut) None c.in_ok-stop_job_in.ensures.stopped
 
 pub invariant_of-cluster : goal.invariant_of-cluster
 invariant_of-cluster g c =

@@ -1,4 +1,4 @@
-use Rattle.std.proofs.Common.{true, ◌≡◌, ◌≢◌, ◌≤◌, ◌∙◌, ◌∷◌, List, ℕ, Some, None, ap, refl, sym, subst, arith, length, map, true≢false}
+use Rattle.std.proofs.Common.{true, false, ◌≡◌, ◌≢◌, ◌≤◌, ◌∙◌, ◌∷◌, List, ℕ, Some, None, ap, refl, sym, subst, arith, length, map, true≢false, inr}
 use Rattle.std.proofs.lemmas.List.{length-map}
 use Rattle.history_rules.specs.declared.cause.Cause.TheVariants.{DiskFault}
 use Rattle.history_rules.specs.declared.entry.Event.TheVariants.{Refused}
@@ -17,10 +17,12 @@ use Rattle.cluster_state.specs.Met.{met_in, ArePlanned}
 use Rattle.cluster_state.proofs.Ledgers.{asked_of, legal_of, lane_of, replica_of}
 use Rattle.cluster_state.proofs.MergingPaths.{two_parts, three_parts}
 use Rattle.cluster_state.proofs.MergingStill.{stand_same}
-use Rattle.cluster_state.proofs.MetStands.{on_any, behind, run_behind, now_behind}
+use Rattle.cluster_state.proofs.MetStands.{on_any, behind, run_behind, now_behind, fails_as_told}
 use Rattle.cluster_copies.proofs.PartPaths.{can_take, part_path, brings_file, took_stand}
 use Rattle.cluster_copies.proofs.Ending.{can_stop}
 use Rattle.cluster_copies.proofs.Calls.{as_nodes, met_stands, JobCall, runs_met, lane_met, out_met, node_rule, refused_turn, refused_path, refused_files}
+use Rattle.cluster_state.proofs.KeptOthers.{but_files}
+use Rattle.cluster_copies.proofs.KeptJobs.{taken_tells, taken_copies, stopped_kept}
 use Rattle.cluster_copies.proofs.transfers.take_part.Goals as goal
 
 pub is_unanswered-requires : goal.is_unanswered-requires
@@ -341,6 +343,11 @@ returns-in-Done-clause-has g c =
     brings_file g.D.Dir.cells c.args.cluster.now _ _ c.cluster.inside.ledger.nodes c.cluster.inside.ledger.log c.cluster.inside.places.items c.take_in.new.places.items c.args.row c.args.part c.cluster.view_is c.requires.running (two_parts c.cluster.invariant) refl refl c.requires.runs
     (lane_of c.book-book.ensures.nodes c.book-book.ensures.log c.job_shows.ensures) (subst (λ (x : Went Unit). ByWent (λ done. TakesIn g.D.Dir.cells c.args.row.job.node.0 c.args.part c.cluster.inside.places.items c.take_in.new.places.items) (StopsIn g.D.Dir.cells (Some c.args.part) c.source_of-p.result.0 c.args.row.job.node.0 c.cluster.inside.places.items c.take_in.new.places.items) x) c.in-Done.is c.in_ok-taken.ensures.went)
 
+pub returns-in-Done-clause-rest : goal.returns-in-Done-clause-rest
+returns-in-Done-clause-rest g c =
+    but_files c.args.cluster.now _ _ _ _ _ _ _ c.cluster.inside.places.items c.take_in.new.places.items (ap (λ (x : Run). x.rest) c.cluster.view_is) refl (c.show_met.ensures.cut ∙ c.in_ok-before.ensures.cut) c.args.row.job.node.0
+    (taken_tells g.D.Dir.cells c.args.row.job.node.0 c.args.part c.cluster.inside.places.items c.take_in.new.places.items (subst (λ (x : Went Unit). ByWent (λ done. TakesIn g.D.Dir.cells c.args.row.job.node.0 c.args.part c.cluster.inside.places.items c.take_in.new.places.items) (StopsIn g.D.Dir.cells (Some c.args.part) c.source_of-p.result.0 c.args.row.job.node.0 c.cluster.inside.places.items c.take_in.new.places.items) x) c.in-Done.is c.in_ok-taken.ensures.went)) (taken_copies g.D.Dir.cells c.args.row.job.node.0 c.args.part c.cluster.inside.places.items c.take_in.new.places.items (subst (λ (x : Went Unit). ByWent (λ done. TakesIn g.D.Dir.cells c.args.row.job.node.0 c.args.part c.cluster.inside.places.items c.take_in.new.places.items) (StopsIn g.D.Dir.cells (Some c.args.part) c.source_of-p.result.0 c.args.row.job.node.0 c.cluster.inside.places.items c.take_in.new.places.items) x) c.in-Done.is c.in_ok-taken.ensures.went))
+
 pub invariant_of-cluster-in-Failed : goal.invariant_of-cluster-in-Failed
 invariant_of-cluster-in-Failed g c =
     let k : JobCall g.D.Dir.cells c.args.cluster.now c.cluster.inside.ledger c.met_before.new.ledger c.cluster.inside.places.items c.cluster.inside.tasks c.args.row c.source_of-p.result = record {
@@ -392,7 +399,33 @@ returns-clause-ok g c =
       now = now_behind g.D.FaultDir.planned c.cluster.inside.places.items c.take_in.new.places.items c.args.cluster.now _ c.cluster.inside.ledger c.met_before.new.ledger c.note_refused.new.ledger c.args.row.job.at c.as_slice-met.result.now (map (met_in g.D.FaultDir.planned) c.take_in.new.places.items)
           (λ l. kept (JobEnd c.args.row.job.at.line c.args.row.job.node c.args.row.job.number) ∷ shown c.args.row.job.at (Refused DiskFault) ∷ l) c.cluster.view_is c.in_ok-before.ensures.log c.in_ok-before.ensures.nodes c.note_refused.ensures.log c.note_refused.ensures.nodes (c.as_slice-met.ensures.value ∙ c.in_ok-before.ensures.met) refl refl refl;
       files = refused_files k _ c.take_in.new.places.items (Some c.args.part) (subst (λ (x : Went Unit). ByWent (λ done. TakesIn g.D.Dir.cells c.args.row.job.node.0 c.args.part c.cluster.inside.places.items c.take_in.new.places.items) (StopsIn g.D.Dir.cells (Some c.args.part) c.source_of-p.result.0 c.args.row.job.node.0 c.cluster.inside.places.items c.take_in.new.places.items) x) c.in-Failed.is c.in_ok-taken.ensures.went) (sym (ap (λ (r : Run). r.rest.jobs) c.cluster.view_is)) refl;
+      failed = inr (fails_as_told g.D.FaultDir.planned c.cluster.inside.places.items c.take_in.new.places.items c.args.cluster.now _ c.cluster.inside.ledger c.args.row.job.node c.as_slice-met.result.now (map (met_in g.D.FaultDir.planned) c.take_in.new.places.items) c.cluster.view_is
+          (c.as_slice-met.ensures.value ∙ c.in_ok-before.ensures.met) refl refl refl c.in_ok-must_have_risen-in-Failed.ensures);
     }
+
+pub returns-clause-rest : goal.returns-clause-rest
+returns-clause-rest g c =
+    let k : JobCall g.D.Dir.cells c.args.cluster.now c.cluster.inside.ledger c.met_before.new.ledger c.cluster.inside.places.items c.cluster.inside.tasks c.args.row c.source_of-p.result = record {
+      call = record {
+        ended = _;
+        left = _;
+        view = c.cluster.view_is;
+        running = c.requires.running;
+        all = c.cluster.invariant;
+        e1 = c.in_ok-before.ensures.log;
+        n1 = c.in_ok-before.ensures.nodes;
+        c1 = c.in_ok-before.ensures.cut;
+      };
+      runs = c.requires.runs;
+      line = c.requires.line;
+      ordered = c.requires.ordered;
+      legal = legal_of c.book-book.ensures.nodes c.book-book.ensures.log c.is_legal.ensures.legal;
+      lane = lane_of c.book-book.ensures.nodes c.book-book.ensures.log c.job_shows.ensures;
+      replica = replica_of c.book-book.ensures.log c.job_replica.ensures;
+      node_p = c.source_of-p.ensures.node;
+      primary = c.source_of-p.ensures.is;
+    } in
+    stopped_kept k (record { ended = false; nodes = c.note_refused.new.ledger.nodes; log = c.note_refused.new.ledger.log; rest = _ }) _ _ _ _ _ c.take_in.new.places.items (ap (λ (x : Run). x.rest) c.cluster.view_is) refl (c.note_refused.ensures.cut ∙ c.in_ok-before.ensures.cut) (Some c.args.part) (subst (λ (x : Went Unit). ByWent (λ done. TakesIn g.D.Dir.cells c.args.row.job.node.0 c.args.part c.cluster.inside.places.items c.take_in.new.places.items) (StopsIn g.D.Dir.cells (Some c.args.part) c.source_of-p.result.0 c.args.row.job.node.0 c.cluster.inside.places.items c.take_in.new.places.items) x) c.in-Failed.is c.in_ok-taken.ensures.went)
 
 pub invariant_of-cluster : goal.invariant_of-cluster
 invariant_of-cluster g c =

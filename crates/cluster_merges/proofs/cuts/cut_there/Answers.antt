@@ -6,6 +6,8 @@ use Rattle.cluster_state.specs.Met.{has_risen}
 use Rattle.cluster_merges.specs.TaskMet.{mets, behind, EndsBehind}
 use Rattle.cluster_merges.proofs.CutPaths.{has_row, has_spread, is_on, may_cut, cut_all, cut_given}
 use Rattle.cluster_merges.proofs.TaskBehind.{primary_behind, calm_behind, all_behind, as_many_met, went_done, went_failed}
+use Rattle.index_primary.specs.declared.parts.PrimaryParts.{PrimaryParts}
+use Rattle.cluster_merges.proofs.KeptMerges.{primary_told}
 use Rattle.cluster_merges.proofs.cuts.cut_there.Goals as goal
 
 pub close-requires : goal.close-requires
@@ -83,3 +85,9 @@ returns-clause-ok g c = record {
   };
   risen = ap (λ (olds : List (ℕ × ℕ)). has_risen c.args.p.0 1 olds (mets g.D.FaultDir.planned c.cut_in.new.places.items)) (sym c.requires.before) ∙ (sym c.has_risen.ensures ∙ c.if-not-has_risen.false);
 }
+
+pub returns-in-Done-clause-rest : goal.returns-in-Done-clause-rest
+returns-in-Done-clause-rest g c = primary_told c.args.p.0 (went_done _ _ c.in_ok-went.went _ c.in-Done.is c.in_ok-went.ensures).primary c.args.places.now.items c.cut_in.new.places.items (went_done _ _ c.in_ok-went.went _ c.in-Done.is c.in_ok-went.ensures).at (went_done _ _ c.in_ok-went.went _ c.in-Done.is c.in_ok-went.ensures).moves (ap (λ (z : PrimaryParts _). z.commits) (went_done _ _ c.in_ok-went.went _ c.in-Done.is c.in_ok-went.ensures).step.others)
+
+pub returns-clause-rest : goal.returns-clause-rest
+returns-clause-rest g c = primary_told c.args.p.0 (went_failed _ _ c.in_ok-went.went c.in-Failed.is c.in_ok-went.ensures).primary c.args.places.now.items c.cut_in.new.places.items (went_failed _ _ c.in_ok-went.went c.in-Failed.is c.in_ok-went.ensures).at (went_failed _ _ c.in_ok-went.went c.in-Failed.is c.in_ok-went.ensures).moves (ap (λ (z : PrimaryParts _). z.commits) (went_failed _ _ c.in_ok-went.went c.in-Failed.is c.in_ok-went.ensures).step.others)

@@ -1,4 +1,4 @@
-use Rattle.std.proofs.Common.{◌≡◌, []}
+use Rattle.std.proofs.Common.{◌≡◌, [], refl, ap, ◌∙◌}
 use Rattle.history_rules.specs.declared.entry.Event.TheVariants.{Drained}
 use Rattle.history_rules.specs.Lines.{entries_of_line}
 use Rattle.history_book.specs.Log.{Log, printed}
@@ -7,6 +7,8 @@ use Rattle.cluster_state.proofs.Frames.{rule_at}
 use Rattle.cluster_state.proofs.Turning.{fresh_turn_at}
 use Rattle.cluster_state.proofs.Ledgers.{asked_of, fresh_of, legal_of, turns_of}
 use Rattle.cluster_merges.proofs.TaskPaths.{drain_rule, drained_all, drained_now}
+use Rattle.cluster_state.specs.Run.{Run}
+use Rattle.cluster_merges.proofs.KeptMerges.{but_tasks, same_tell}
 use Rattle.cluster_merges.proofs.drains.note_drained.Goals as goal
 
 pub is_fresh-requires : goal.is_fresh-requires
@@ -33,3 +35,6 @@ invariant_of-cluster-2 g c = λ running. drained_all g.D.Dir.cells c.args.cluste
 pub returns-clause-ok : goal.returns-clause-ok
 returns-clause-ok g c = drained_now c.args.cluster.now c.cluster.inside.ledger c.reserve.new.self c.cluster.inside.tasks c.cluster.view_is c.in_ok-reserve.ensures.log c.in_ok-reserve.ensures.nodes
     c.show.new.self c.drain.new.self c.args.at c.args.done c.args.most _ _ _ c.show.ensures.log c.show.ensures.nodes c.drain.ensures.rows c.drain.ensures.posted
+
+pub returns-clause-rest : goal.returns-clause-rest
+returns-clause-rest g c = but_tasks c.args.cluster.now _ _ _ _ _ _ _ _ c.cluster.inside.places.items c.cluster.inside.places.items (ap (λ (x : Run). x.rest) c.cluster.view_is) refl (c.show.ensures.cut ∙ c.in_ok-reserve.ensures.cut) (same_tell c.cluster.inside.places.items)

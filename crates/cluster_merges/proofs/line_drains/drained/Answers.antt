@@ -24,3 +24,9 @@ returns-clause-ok g c =
       | else-done-most-via-else-done-most w ↦ inl (omega (arith, w.if-done-most.false, c.counted-done.ensures, c.requires.few))
     ] in
     (subst (λ (n : ℕ). IsBoard r c.note_drained.new.cluster (shown c.args.at (Drained n c.args.most) ∷ r.log) r.rest.tasks.rows r.rest.tasks.posted) c.counted-done.ensures c.in_ok-note_drained.ensures.ok, ends)
+
+pub returns-then-not-is_idle-clause-rest : goal.returns-then-not-is_idle-clause-rest
+returns-then-not-is_idle-clause-rest g c = record { rest = refl }
+
+pub returns-clause-rest : goal.returns-clause-rest
+returns-clause-rest g c = c.in_ok-note_drained.ensures.rest

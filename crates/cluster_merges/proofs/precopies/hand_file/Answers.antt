@@ -16,6 +16,12 @@ use Rattle.cluster_merges.proofs.CopyFacts.{spread_some, place_misses, no_job, n
 use Rattle.cluster_merges.proofs.CopyPaths.{handed_all, handed_file, drop_there, drop_path}
 use Rattle.cluster_merges.proofs.DueFiles.{behind_due, all_due, primary_due, replica_behind, merges_behind, misses_replica}
 use Rattle.cluster_merges.proofs.TaskBehind.{primary_behind, all_behind, as_many_met, went_done, went_failed}
+use Rattle.replica_node.specs.declared.parts.ReplicaParts.{ReplicaParts}
+use Rattle.cluster_state.specs.CallsLeft.{stage_calls}
+use Rattle.cluster_state.specs.JobsIn.{job_files}
+use Rattle.cluster_merges.proofs.KeptMerges.{replica_told, primary_all, told_then}
+use Rattle.index_primary.specs.declared.parts.PrimaryParts.{PrimaryParts}
+use Rattle.cluster_nodes.specs.Given.{merge_sizes}
 use Rattle.cluster_merges.proofs.precopies.hand_file.Goals as goal
 
 pub read_in-requires : goal.read_in-requires
@@ -85,3 +91,16 @@ returns-in_ok-fail_task-in-Failed-clause-shown g c =
 
 pub returns-in_ok-fail_task-in-Failed-clause-ok : goal.returns-in_ok-fail_task-in-Failed-clause-ok
 returns-in_ok-fail_task-in-Failed-clause-ok g c = inl c.in_ok-fail_task-in-Failed.ensures.ok
+
+pub returns-in_ok-show_task_met-in-Done-clause-cut : goal.returns-in_ok-show_task_met-in-Done-clause-cut
+returns-in_ok-show_task_met-in-Done-clause-cut g c = c.keep.ensures.cut ∙ (c.show_task_due-fate.ensures.cut ∙ c.show_task_met.ensures.cut)
+
+pub returns-in_ok-show_task_met-in-Done-clause-rest : goal.returns-in_ok-show_task_met-in-Done-clause-rest
+returns-in_ok-show_task_met-in-Done-clause-rest g c = primary_all c.args.p.0 (went_done _ _ _ c.in-Done.source c.in-Done.is c.in_ok-source.ensures.went).primary c.args.places.now.items c.read_in.new.places.items (went_done _ _ _ c.in-Done.source c.in-Done.is c.in_ok-source.ensures.went).at (went_done _ _ _ c.in-Done.source c.in-Done.is c.in_ok-source.ensures.went).moves (ap (λ (z : PrimaryParts _). z.commits) (went_done _ _ _ c.in-Done.source c.in-Done.is c.in_ok-source.ensures.went).alters.others) (ap (λ (z : PrimaryParts _). merge_sizes z) (went_done _ _ _ c.in-Done.source c.in-Done.is c.in_ok-source.ensures.went).alters.others)
+
+pub returns-in_ok-fail_task-in-Failed-clause-cut : goal.returns-in_ok-fail_task-in-Failed-clause-cut
+returns-in_ok-fail_task-in-Failed-clause-cut g c = c.in_ok-fail_task-in-Failed.ensures.ok.ends.cut
+
+pub returns-in_ok-fail_task-in-Failed-clause-rest : goal.returns-in_ok-fail_task-in-Failed-clause-rest
+returns-in_ok-fail_task-in-Failed-clause-rest g c = told_then c.args.n.0 c.args.places.now.items c.read_in.new.places.items c.drop_in.new.places.items (primary_all c.args.p.0 (went_failed _ _ _ c.in-Failed.is c.in_ok-source.ensures.went).primary c.args.places.now.items c.read_in.new.places.items (went_failed _ _ _ c.in-Failed.is c.in_ok-source.ensures.went).at (went_failed _ _ _ c.in-Failed.is c.in_ok-source.ensures.went).moves (ap (λ (z : PrimaryParts _). z.commits) (went_failed _ _ _ c.in-Failed.is c.in_ok-source.ensures.went).alters.others) (ap (λ (z : PrimaryParts _). merge_sizes z) (went_failed _ _ _ c.in-Failed.is c.in_ok-source.ensures.went).alters.others))
+    (replica_told c.args.n.0 c.drop_in.ensures.replica c.read_in.new.places.items c.drop_in.new.places.items c.drop_in.ensures.at c.drop_in.ensures.moves (ap (λ (z : ReplicaParts _). stage_calls z.commits.stage) c.drop_in.ensures.step.others) (ap (λ (z : ReplicaParts _). job_files z.seen.0 z.job) c.drop_in.ensures.step.others))

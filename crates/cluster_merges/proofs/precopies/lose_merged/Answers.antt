@@ -9,6 +9,7 @@ use Rattle.cluster_merges.specs.CopyTurns.{EndsCopyOf}
 use Rattle.cluster_merges.proofs.InsideSteps.{all_is}
 use Rattle.cluster_merges.proofs.CopyFacts.{copy_on}
 use Rattle.cluster_merges.proofs.TaskBehind.{line_there, ends_copy}
+use Rattle.cluster_merges.proofs.KeptMerges.{but_copies}
 use Rattle.cluster_merges.proofs.precopies.lose_merged.Goals as goal
 
 pub unreachable-requires : goal.unreachable-requires
@@ -43,3 +44,6 @@ returns-clause-ok g c =
     refl refl refl _ refl c.lose_there.new.ledger c.lose_there.new.tasks refl c.in-Some.at c.args.line c.args.seg c.args.by c.args.n c.args.job (sym c.merge_on.ensures ∙ c.in-Some.is)
     (subst (λ (olds : List (ℕ × ℕ)). EndsCopyOf c.args.line c.args.seg c.args.by c.args.n c.args.job (behind c.in-Some.at olds (mets g.D.FaultDir.planned c.lose_there.new.places.items) c.met_before.new.ledger) c.lose_there.new.ledger c.cluster.inside.tasks c.lose_there.new.tasks)
     (c.as_slice.ensures.value ∙ c.in_ok-before.ensures.met) c.in_ok-lose_there.ensures.ok)
+
+pub returns-clause-rest : goal.returns-clause-rest
+returns-clause-rest g c = but_copies c.args.cluster.now _ _ _ _ _ _ _ _ c.cluster.inside.places.items c.lose_there.new.places.items (ap (λ (x : Run). x.rest) c.cluster.view_is) refl (c.in_ok-lose_there.ensures.ok.cut ∙ c.met_before.ensures.cut) c.args.n.0 c.in_ok-lose_there.ensures.rest

@@ -3,6 +3,7 @@ use Rattle.cluster_merges.specs.TaskMet.{mets}
 use Rattle.cluster_merges.proofs.CopyFacts.{spread_some, slot_here}
 use Rattle.cluster_merges.proofs.LostCopies.{gone_ends}
 use Rattle.cluster_merges.proofs.TaskBehind.{as_many_met}
+use Rattle.cluster_merges.proofs.KeptMerges.{same_tell, all_but}
 use Rattle.cluster_merges.proofs.precopies.lose_there.Goals as goal
 
 pub runs_in-requires : goal.runs_in-requires
@@ -24,3 +25,6 @@ returns-then-not-runs_in-clause-shown g c =
 
 pub end_there-requires-clause-runs : goal.end_there-requires-clause-runs
 end_there-requires-clause-runs g c = c.runs_in.ensures.runs c.if-not-runs_in.false
+
+pub returns-then-not-runs_in-clause-rest : goal.returns-then-not-runs_in-clause-rest
+returns-then-not-runs_in-clause-rest g c = all_but c.args.n.0 c.args.places.now.items c.args.places.now.items (same_tell c.args.places.now.items)

@@ -11,6 +11,7 @@ use Rattle.cluster_merges.proofs.InsideSteps.{all_is}
 use Rattle.cluster_merges.proofs.CopyCalls.{turn_where}
 use Rattle.cluster_merges.proofs.CopyFacts.{copy_on}
 use Rattle.cluster_merges.proofs.TaskBehind.{line_there, turns_so}
+use Rattle.cluster_merges.proofs.KeptMerges.{but_ended}
 use Rattle.cluster_merges.proofs.precopies.next_merged.Goals as goal
 
 pub unreachable-requires : goal.unreachable-requires
@@ -52,3 +53,8 @@ returns-clause-ok g c =
 pub returns-clause-turn : goal.returns-clause-turn
 returns-clause-turn g c =
     turn_where c.args.cluster.now c.cluster.inside.ledger c.met_before.new.ledger c.cluster.inside.tasks c.cluster.inside.places.items c.cluster.view_is c.met_before.ensures.log c.args.seg c.args.n c.args.job c.in_ok-turn.turn c.in_ok-turn.ensures.turn
+
+pub returns-clause-rest : goal.returns-clause-rest
+returns-clause-rest g c =
+    but_ended c.args.cluster.now _ _ _ _ _ _ _ _ c.cluster.inside.places.items c.step_copy.new.places.items (ap (λ (x : Run). x.rest) c.cluster.view_is) refl (c.in_ok-turn.ensures.cut ∙ c.met_before.ensures.cut)
+    c.in-Some.at c.args.line c.args.seg c.args.by c.args.p c.args.n c.args.job _ _ _ _ _ c.in_ok-turn.turn c.in_ok-turn.ensures.ok c.in_ok-turn.ensures.rest

@@ -1,4 +1,4 @@
-use Rattle.std.proofs.Common.{◌∙◌, inr}
+use Rattle.std.proofs.Common.{◌∙◌, inr, ap}
 use Rattle.std.specs.Prelude.{⊤}
 use Rattle.merge_tasks.specs.Board.{open_merge, spread_at}
 use Rattle.cluster_nodes.specs.Places.{place_of}
@@ -7,6 +7,10 @@ use Rattle.cluster_merges.specs.TaskMet.{mets, behind}
 use Rattle.cluster_merges.proofs.CopyFacts.{spread_some, place_misses, may_settle}
 use Rattle.cluster_merges.proofs.CopyPaths.{settle_path, lost_path}
 use Rattle.cluster_merges.proofs.TaskBehind.{primary_behind, all_behind, as_many_met, went_done, went_failed}
+use Rattle.replica_node.specs.declared.parts.ReplicaParts.{ReplicaParts}
+use Rattle.cluster_state.specs.CallsLeft.{stage_calls}
+use Rattle.cluster_state.specs.JobsIn.{job_files}
+use Rattle.cluster_merges.proofs.KeptMerges.{replica_told}
 use Rattle.cluster_merges.proofs.precopies.settle_copy.Goals as goal
 
 pub settle_in-requires : goal.settle_in-requires
@@ -50,3 +54,15 @@ returns-in_ok-fail_task-in-Failed-clause-shown g c =
 
 pub returns-in_ok-fail_task-in-Failed-clause-ok : goal.returns-in_ok-fail_task-in-Failed-clause-ok
 returns-in_ok-fail_task-in-Failed-clause-ok g c = inr c.in_ok-fail_task-in-Failed.ensures.ok
+
+pub returns-in_ok-end_task-in-Done-clause-cut : goal.returns-in_ok-end_task-in-Done-clause-cut
+returns-in_ok-end_task-in-Done-clause-cut g c = c.in_ok-end_task-in-Done.ensures.ok.cut
+
+pub returns-in_ok-end_task-in-Done-clause-rest : goal.returns-in_ok-end_task-in-Done-clause-rest
+returns-in_ok-end_task-in-Done-clause-rest g c = replica_told c.args.n.0 (went_done _ _ _ _ c.in-Done.is c.in_ok-settle_in.ensures).replica c.args.places.now.items c.settle_in.new.places.items (went_done _ _ _ _ c.in-Done.is c.in_ok-settle_in.ensures).at (went_done _ _ _ _ c.in-Done.is c.in_ok-settle_in.ensures).moves (ap (λ (z : ReplicaParts _). stage_calls z.commits.stage) (went_done _ _ _ _ c.in-Done.is c.in_ok-settle_in.ensures).step.others) (ap (λ (z : ReplicaParts _). job_files z.seen.0 z.job) (went_done _ _ _ _ c.in-Done.is c.in_ok-settle_in.ensures).step.others)
+
+pub returns-in_ok-fail_task-in-Failed-clause-cut : goal.returns-in_ok-fail_task-in-Failed-clause-cut
+returns-in_ok-fail_task-in-Failed-clause-cut g c = c.in_ok-fail_task-in-Failed.ensures.ok.ends.cut
+
+pub returns-in_ok-fail_task-in-Failed-clause-rest : goal.returns-in_ok-fail_task-in-Failed-clause-rest
+returns-in_ok-fail_task-in-Failed-clause-rest g c = replica_told c.args.n.0 (went_failed _ _ _ c.in-Failed.is c.in_ok-settle_in.ensures).replica c.args.places.now.items c.settle_in.new.places.items (went_failed _ _ _ c.in-Failed.is c.in_ok-settle_in.ensures).at (went_failed _ _ _ c.in-Failed.is c.in_ok-settle_in.ensures).moves (ap (λ (z : ReplicaParts _). stage_calls z.commits.stage) (went_failed _ _ _ c.in-Failed.is c.in_ok-settle_in.ensures).step.others) (ap (λ (z : ReplicaParts _). job_files z.seen.0 z.job) (went_failed _ _ _ c.in-Failed.is c.in_ok-settle_in.ensures).step.others)

@@ -7,6 +7,7 @@ use Rattle.cluster_merges.specs.TaskMet.{mets, behind}
 use Rattle.cluster_merges.proofs.EndedCopies.{end_path}
 use Rattle.cluster_merges.proofs.CopyFacts.{spread_some, slot_here, place_misses, job_runs, copy_gone}
 use Rattle.cluster_merges.proofs.TaskBehind.{all_behind, as_many_met}
+use Rattle.cluster_merges.proofs.KeptMerges.{same_tell, all_but}
 use Rattle.cluster_merges.proofs.precopies.step_copy.Goals as goal
 
 pub step_in-requires : goal.step_in-requires
@@ -52,3 +53,15 @@ settle_copy-requires-clause-step g c = (subst (IsStepAt c.args.seg.0 c.args.job 
 
 pub hand_file-requires-clause-step : goal.hand_file-requires-clause-step
 hand_file-requires-clause-step g c = (subst (IsStepAt c.args.seg.0 c.args.job (place_of c.args.places.now.items c.args.n.0)) c.in-Wants.is c.in_ok-step_in.ensures)
+
+pub returns-in-Waits-clause-cut : goal.returns-in-Waits-clause-cut
+returns-in-Waits-clause-cut g c = refl
+
+pub returns-in-Waits-clause-rest : goal.returns-in-Waits-clause-rest
+returns-in-Waits-clause-rest g c = same_tell c.args.places.now.items
+
+pub returns-in_ok-end_task-in-Gone-clause-cut : goal.returns-in_ok-end_task-in-Gone-clause-cut
+returns-in_ok-end_task-in-Gone-clause-cut g c = c.in_ok-end_task-in-Gone.ensures.ok.cut
+
+pub returns-in_ok-end_task-in-Gone-clause-rest : goal.returns-in_ok-end_task-in-Gone-clause-rest
+returns-in_ok-end_task-in-Gone-clause-rest g c = all_but c.args.n.0 c.args.places.now.items c.args.places.now.items (same_tell c.args.places.now.items)

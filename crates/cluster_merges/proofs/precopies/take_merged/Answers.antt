@@ -13,6 +13,7 @@ use Rattle.cluster_merges.specs.CopyTurns.{MeetsOf, FailsCopyOf}
 use Rattle.cluster_merges.proofs.InsideSteps.{all_is}
 use Rattle.cluster_merges.proofs.CopyFacts.{copy_on}
 use Rattle.cluster_merges.proofs.TaskBehind.{line_there, takes_so}
+use Rattle.cluster_merges.proofs.KeptMerges.{but_copies}
 use Rattle.cluster_merges.proofs.precopies.take_merged.Goals as goal
 
 pub unreachable-requires : goal.unreachable-requires
@@ -51,3 +52,6 @@ returns-clause-ok g c =
     (subst (λ (olds : List (ℕ × ℕ)). ByWent (λ done. MeetsOf (behind c.in-Some.at olds (mets g.D.FaultDir.planned c.take_there.new.places.items) c.met_before.new.ledger) c.take_there.new.ledger c.cluster.inside.tasks c.take_there.new.tasks)
     (FailsCopyOf c.args.line c.args.seg c.args.by c.args.n c.args.n c.args.job olds (mets g.D.FaultDir.planned c.take_there.new.places.items)
     (behind c.in-Some.at olds (mets g.D.FaultDir.planned c.take_there.new.places.items) c.met_before.new.ledger) c.take_there.new.ledger c.cluster.inside.tasks c.take_there.new.tasks) c.in_ok-went.went) (c.as_slice.ensures.value ∙ c.in_ok-before.ensures.met) c.in_ok-went.ensures.ok)
+
+pub returns-clause-rest : goal.returns-clause-rest
+returns-clause-rest g c = but_copies c.args.cluster.now _ _ _ _ _ _ _ _ c.cluster.inside.places.items c.take_there.new.places.items (ap (λ (x : Run). x.rest) c.cluster.view_is) refl (c.in_ok-went.ensures.cut ∙ c.met_before.ensures.cut) c.args.n.0 c.in_ok-went.ensures.rest

@@ -1,4 +1,4 @@
-use Rattle.std.proofs.Common.{◌≡◌, [], Ok, ap, ◌∙◌, sym, subst}
+use Rattle.std.proofs.Common.{◌≡◌, [], Ok, ap, ◌∙◌, sym, subst, refl}
 use Rattle.history_rules.specs.Lines.{entries_of_line}
 use Rattle.history_rules.specs.Rules.{MayStartMerge}
 use Rattle.history_book.specs.Log.{Log, printed}
@@ -10,6 +10,8 @@ use Rattle.cluster_state.proofs.Frames.{slot_at}
 use Rattle.cluster_state.proofs.Ledgers.{asked_of, fresh_of, legal_of, turns_of}
 use Rattle.cluster_merges.proofs.AtPrimary.{has_primary_at}
 use Rattle.cluster_merges.proofs.StartPaths.{not_many, none_all, spent_all, none_starts, spent_starts, merging_rule, started_all, begins_merge}
+use Rattle.cluster_state.specs.Run.{Run}
+use Rattle.cluster_merges.proofs.KeptMerges.{primary_told, asked_commits, but_sizes}
 use Rattle.cluster_merges.proofs.starts.start_merge.Goals as goal
 
 pub is_fresh-requires : goal.is_fresh-requires
@@ -66,3 +68,15 @@ returns-clause-ok g c = begins_merge g.D.Dir.cells c.args.cluster.now c.cluster.
     c.requires.node c.requires.primary c.ask_in.ensures c.in-Ok-Some.task (c.in-Ok-Some.is ∙ ap Ok c.in-Ok-Some.field-0-is)
     c.show_merging.new.self c.keep.new.self c.in_ok-inputs.inputs c.begin.new.self c.in_ok-inputs.ensures c.show_merging.ensures.log c.show_merging.ensures.nodes c.show_merging.ensures.cut
     c.keep.ensures.log c.keep.ensures.nodes c.keep.ensures.cut c.in_ok-begin.ensures.rows c.in_ok-begin.ensures.posted c.begin.ensures.counts
+
+pub returns-in-Ok-None-clause-rest : goal.returns-in-Ok-None-clause-rest
+returns-in-Ok-None-clause-rest g c = but_sizes c.args.cluster.now _ _ _ _ _ _ _ _ c.cluster.inside.places.items c.ask_in.new.places.items (ap (λ (x : Run). x.rest) c.cluster.view_is) refl c.in_ok-reserve.ensures.cut
+    (primary_told c.args.p.0 c.ask_in.ensures.primary c.cluster.inside.places.items c.ask_in.new.places.items c.ask_in.ensures.at c.ask_in.ensures.moves (asked_commits c.args.factor c.ask_in.ensures.at.parts c.ask_in.ensures.primary c.ask_in.result c.ask_in.ensures.step.answers))
+
+pub returns-in-Err-clause-rest : goal.returns-in-Err-clause-rest
+returns-in-Err-clause-rest g c = but_sizes c.args.cluster.now _ _ _ _ _ _ _ _ c.cluster.inside.places.items c.ask_in.new.places.items (ap (λ (x : Run). x.rest) c.cluster.view_is) refl c.in_ok-reserve.ensures.cut
+    (primary_told c.args.p.0 c.ask_in.ensures.primary c.cluster.inside.places.items c.ask_in.new.places.items c.ask_in.ensures.at c.ask_in.ensures.moves (asked_commits c.args.factor c.ask_in.ensures.at.parts c.ask_in.ensures.primary c.ask_in.result c.ask_in.ensures.step.answers))
+
+pub returns-clause-rest : goal.returns-clause-rest
+returns-clause-rest g c = but_sizes c.args.cluster.now _ _ _ _ _ _ _ _ c.cluster.inside.places.items c.ask_in.new.places.items (ap (λ (x : Run). x.rest) c.cluster.view_is) refl (c.keep.ensures.cut ∙ (c.show_merging.ensures.cut ∙ c.in_ok-reserve.ensures.cut))
+    (primary_told c.args.p.0 c.ask_in.ensures.primary c.cluster.inside.places.items c.ask_in.new.places.items c.ask_in.ensures.at c.ask_in.ensures.moves (asked_commits c.args.factor c.ask_in.ensures.at.parts c.ask_in.ensures.primary c.ask_in.result c.ask_in.ensures.step.answers))

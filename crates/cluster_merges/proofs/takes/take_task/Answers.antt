@@ -1,6 +1,9 @@
+use Rattle.std.proofs.Common.{refl, ap, ◌∙◌}
 use Rattle.cluster_state.proofs.MergingPaths.{third_at}
 use Rattle.cluster_state.proofs.Turning.{running_has}
 use Rattle.cluster_merges.proofs.TaskPaths.{none_taken, hands_task, still_all, taken_all}
+use Rattle.cluster_state.specs.Run.{Run}
+use Rattle.cluster_merges.proofs.KeptMerges.{but_tasks, same_tell}
 use Rattle.cluster_merges.proofs.takes.take_task.Goals as goal
 
 pub invariant_of-cluster-in-None : goal.invariant_of-cluster-in-None
@@ -20,3 +23,9 @@ pub returns-in-Some-clause-ok : goal.returns-in-Some-clause-ok
 returns-in-Some-clause-ok g c = hands_task c.args.cluster.now c.cluster.inside.ledger c.reserve.new.self c.cluster.inside.tasks c.cluster.view_is c.in_ok-reserve.ensures.log c.in_ok-reserve.ensures.nodes
     c.cluster.inside.places.items c.keep.new.self c.take.new.self c.in-Some.posted c.args.by c.step_of-step.result _ _ _ c.step_of-step.ensures c.keep.ensures.log c.keep.ensures.nodes c.in-Some.ensures.first c.take.ensures.rows
     (third_at c.cluster.view_is c.requires.running c.cluster.invariant)
+
+pub returns-in-None-clause-rest : goal.returns-in-None-clause-rest
+returns-in-None-clause-rest g c = but_tasks c.args.cluster.now _ _ _ _ _ _ _ _ c.cluster.inside.places.items c.cluster.inside.places.items (ap (λ (x : Run). x.rest) c.cluster.view_is) refl c.in_ok-reserve.ensures.cut (same_tell c.cluster.inside.places.items)
+
+pub returns-in-Some-clause-rest : goal.returns-in-Some-clause-rest
+returns-in-Some-clause-rest g c = but_tasks c.args.cluster.now _ _ _ _ _ _ _ _ c.cluster.inside.places.items c.cluster.inside.places.items (ap (λ (x : Run). x.rest) c.cluster.view_is) refl (c.keep.ensures.cut ∙ c.in_ok-reserve.ensures.cut) (same_tell c.cluster.inside.places.items)

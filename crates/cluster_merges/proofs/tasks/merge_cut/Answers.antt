@@ -39,3 +39,12 @@ returns-clause-ok g c =
     let test : is_copied (spread_at (open_merge c.args.seg.0 c.args.state.now.rest.tasks.rows)) ≡ true = ap (λ (b : Board). is_copied (spread_at (open_merge c.args.seg.0 b.rows))) (sym tasks) ∙ sym c.if-not-is_copied.ensures in
     subst (λ (t : Bool). CutsOnce c.args.line c.args.seg c.args.by c.args.state.now c.cut_merge.new.cluster t) (sym test)
     (c.in_ok-cut_merge.ensures.ok, sym (c.publishing.ensures ∙ ap (λ (l : Log). publish_in_flight (printed l)) c.book.ensures.log) ∙ none_of c.publishing.result (sym c.if-is_some.ensures))
+
+pub returns-then-not-is_copied-clause-rest : goal.returns-then-not-is_copied-clause-rest
+returns-then-not-is_copied-clause-rest g c = record { rest = refl }
+
+pub returns-then-is_some-clause-rest : goal.returns-then-is_some-clause-rest
+returns-then-is_some-clause-rest g c = record { rest = refl }
+
+pub returns-clause-rest : goal.returns-clause-rest
+returns-clause-rest g c = c.in_ok-cut_merge.ensures.rest

@@ -1,4 +1,4 @@
-use Rattle.std.proofs.Common.{◌≡◌, ◌∙◌, ℕ, List, Some, Bool, true, false, ap, sym, subst}
+use Rattle.std.proofs.Common.{◌≡◌, ◌∙◌, ℕ, List, Some, Bool, true, false, ap, sym, subst, refl}
 use Rattle.std.specs.Prelude.{Result}
 use Rattle.copy_job.specs.declared.copying.Part.{Part}
 use Rattle.copy_job.specs.declared.fault.JobFault.{JobFault}
@@ -66,3 +66,15 @@ returns-clause-ok g c =
     subst (λ (t : Bool). PartEnds c.args.line c.args.seg c.args.by c.args.n c.args.job c.args.file.now.fate c.args.state.now c.lose_merged.new.cluster t) (sym test)
     (loses_copy c.args.file.now.fate c.args.line c.args.seg c.args.by c.args.n c.args.job c.args.state.now c.lose_merged.new.cluster
     (not_whole c.args.file.now c.in-Err.field-0 (subst (λ (r : Result Part JobFault). ArrivesBy c.args.file.now r) c.in-Err.is c.requires.arrives)) c.in_ok-lose_merged-in-Err.ensures.ok)
+
+pub returns-then-not-has_copy_task-clause-rest : goal.returns-then-not-has_copy_task-clause-rest
+returns-then-not-has_copy_task-clause-rest g c = record { rest = refl; copies = λ m apart. refl }
+
+pub returns-in-Done-clause-rest : goal.returns-in-Done-clause-rest
+returns-in-Done-clause-rest g c = c.in_ok-take_merged-in-Ok.ensures.rest
+
+pub returns-in-Ok-clause-rest : goal.returns-in-Ok-clause-rest
+returns-in-Ok-clause-rest g c = c.in_ok-take_merged-in-Ok.ensures.rest
+
+pub returns-clause-rest : goal.returns-clause-rest
+returns-clause-rest g c = c.in_ok-lose_merged-in-Err.ensures.rest

@@ -11,6 +11,7 @@ use Rattle.cluster_merges.specs.declared.precopies.CopyTurn.{CopyTurn}
 use Rattle.cluster_merges.proofs.CopyCalls.{nothing_done}
 use Rattle.cluster_merges.specs.TaskCalls.{EndsCopyOnce}
 use Rattle.cluster_merges.proofs.Turning.{no_row}
+use Rattle.cluster_merges.specs.MergesKept.{KeepsButEnded}
 use Rattle.cluster_merges.proofs.tasks.precopy_next.Goals as goal
 
 pub returns-then-not-has_copy_task-clause-ok : goal.returns-then-not-has_copy_task-clause-ok
@@ -53,3 +54,18 @@ returns-in-Fails-clause-ok g c =
     let test : has_copy_task c.args.n.0 c.args.job (spread_at (open_merge c.args.seg.0 c.args.state.now.rest.tasks.rows)) ≡ true = ap (λ (b : Board). has_copy_task c.args.n.0 c.args.job (spread_at (open_merge c.args.seg.0 b.rows))) (sym tasks) ∙ sym c.if-not-has_copy_task.ensures in
     subst (λ (t : Bool). EndsCopyOnce c.args.line c.args.seg c.args.by c.args.n c.args.job c.args.state.now c.next_merged.new.cluster t) (sym test)
     (inr (subst (λ (t : CopyTurn). TurnsCopy c.args.line c.args.seg c.args.by c.args.n c.args.job c.args.state.now c.next_merged.new.cluster t) c.in-Fails.is c.in_ok-next_merged.ensures.ok))
+
+pub returns-then-not-has_copy_task-clause-rest : goal.returns-then-not-has_copy_task-clause-rest
+returns-then-not-has_copy_task-clause-rest g c = record { rest = refl; copies = λ m apart. refl }
+
+pub returns-in-Waits-clause-rest : goal.returns-in-Waits-clause-rest
+returns-in-Waits-clause-rest g c = subst (KeepsButEnded c.args.n.0 c.args.state.now c.next_merged.new.cluster) c.in-Waits.is c.in_ok-next_merged.ensures.rest
+
+pub returns-in-Hands-clause-rest : goal.returns-in-Hands-clause-rest
+returns-in-Hands-clause-rest g c = subst (KeepsButEnded c.args.n.0 c.args.state.now c.next_merged.new.cluster) c.in-Hands.is c.in_ok-next_merged.ensures.rest
+
+pub returns-in-Ends-clause-rest : goal.returns-in-Ends-clause-rest
+returns-in-Ends-clause-rest g c = subst (KeepsButEnded c.args.n.0 c.args.state.now c.next_merged.new.cluster) c.in-Ends.is c.in_ok-next_merged.ensures.rest
+
+pub returns-in-Fails-clause-rest : goal.returns-in-Fails-clause-rest
+returns-in-Fails-clause-rest g c = subst (KeepsButEnded c.args.n.0 c.args.state.now c.next_merged.new.cluster) c.in-Fails.is c.in_ok-next_merged.ensures.rest

@@ -4,6 +4,7 @@ use Rattle.history_rules.specs.Lines.{entries_of_line}
 use Rattle.history_book.specs.Log.{Log, printed}
 use Rattle.cluster_merges.specs.MergePaths.{StartsMergeFor}
 use Rattle.cluster_merges.proofs.Turning.{plain_cause, not_started, refused_so}
+use Rattle.cluster_merges.proofs.KeptMerges.{sized_then}
 use Rattle.cluster_merges.proofs.tasks.start_at.Goals as goal
 
 pub returns-in-None-clause-ok : goal.returns-in-None-clause-ok
@@ -27,3 +28,9 @@ pub returns-in_ok-refuse-in-Some-clause-ok : goal.returns-in_ok-refuse-in-Some-c
 returns-in_ok-refuse-in-Some-clause-ok g c =
     refused_so c.args.at c.args.factor c.args.state.now c.start_merge.new.cluster c.refuse.new.state c.in-Some.cause (subst (λ (o : Option Cause). StartsMergeFor c.args.at c.args.factor c.args.state.now c.start_merge.new.cluster o) c.in-Some.is c.in_ok-start_merge.ensures.ok)
     c.in_ok-refuse-in-Some.ensures.ok c.in_ok-refuse-in-Some.ensures.tasks
+
+pub returns-in-None-clause-rest : goal.returns-in-None-clause-rest
+returns-in-None-clause-rest g c = c.in_ok-start_merge.ensures.rest
+
+pub returns-in_ok-refuse-in-Some-clause-rest : goal.returns-in_ok-refuse-in-Some-clause-rest
+returns-in_ok-refuse-in-Some-clause-rest g c = sized_then c.args.state.now c.start_merge.new.cluster c.refuse.new.state c.in_ok-start_merge.ensures.rest c.in_ok-refuse-in-Some.ensures.rest

@@ -13,6 +13,8 @@ use Rattle.cluster_state.proofs.Turning.{fresh_turn, running_has}
 use Rattle.cluster_recovery.proofs.CallsLeft.{begun_calls, waiting_calls, rests_here, calls_was}
 use Rattle.cluster_recovery.proofs.Committing.{stands_there, none_there, stays_in}
 use Rattle.cluster_recovery.proofs.CommitPaths.{begins_stand, carries_stand, stands_is, may_begin, stuck_there}
+use Rattle.cluster_recovery.proofs.KeptLives.{owns_itself, none_commits, one_commits, commit_kept}
+use Rattle.commit_steps.specs.Book.{HasBegun}
 use Rattle.cluster_recovery.proofs.commits.begin_commit.Goals as goal
 
 pub is_fresh-requires : goal.is_fresh-requires
@@ -103,9 +105,14 @@ returns-in-Some-clause-ok g c =
         nodes = c.show.ensures.nodes ∙ (c.in_ok-reserve.ensures.nodes ∙ ap (λ (x : Run). x.nodes) c.cluster.view_is);
         log = c.show.ensures.log ∙ ap (λ (l : Log). shown c.args.at (Committing c.args.n (record { 0 = c.version.result })) ∷ l) (c.in_ok-reserve.ensures.log ∙ ap (λ (x : Run). x.log) c.cluster.view_is);
       };
-      calls = waiting_calls g.D.Dir.cells c.args.n.0 c.args.cluster.now _ c.cluster.inside.carries c.note_own.new.carries c.cluster.inside.places.items c.cluster.inside.places.items (calls_was c.args.cluster.now _ c.cluster.view_is) refl refl (stays_in g.D.Dir.cells c.reserve.new.self.log c.reserve.new.self.nodes c.in-Some.field-0 c.args.n.0 c.cluster.inside.places.items (stands_is c.in_ok-reserve.ensures.nodes c.in_ok-reserve.ensures.cut c.in_ok-reserve.ensures.log (running_has c.cluster.view_is c.requires.running c.cluster.invariant)).0 (asked_size (λ (k : ℕ). IsNode k c.args.n.0) c.cluster.view_is c.in_ok-reserve.ensures.nodes c.requires.node) (sym c.committing_in.ensures ∙ c.in-Some.is)).place (stays_in g.D.Dir.cells c.reserve.new.self.log c.reserve.new.self.nodes c.in-Some.field-0 c.args.n.0 c.cluster.inside.places.items (stands_is c.in_ok-reserve.ensures.nodes c.in_ok-reserve.ensures.cut c.in_ok-reserve.ensures.log (running_has c.cluster.view_is c.requires.running c.cluster.invariant)).0 (asked_size (λ (k : ℕ). IsNode k c.args.n.0) c.cluster.view_is c.in_ok-reserve.ensures.nodes c.requires.node) (sym c.committing_in.ensures ∙ c.in-Some.is)).there (sym c.has_own_at.ensures ∙ c.if-has_own_at.false) c.note_own.ensures;
+      calls = waiting_calls g.D.Dir.cells c.args.n.0 c.args.cluster.now _ c.cluster.inside.carries c.note_own.new.carries c.cluster.inside.places.items c.cluster.inside.places.items (calls_was c.args.cluster.now _ c.cluster.view_is) refl refl (stays_in g.D.Dir.cells c.reserve.new.self.log c.reserve.new.self.nodes c.in-Some.field-0 c.args.n.0 c.cluster.inside.places.items (stands_is c.in_ok-reserve.ensures.nodes c.in_ok-reserve.ensures.cut c.in_ok-reserve.ensures.log (running_has c.cluster.view_is c.requires.running c.cluster.invariant)).0 (asked_size (λ (k : ℕ). IsNode k c.args.n.0) c.cluster.view_is c.in_ok-reserve.ensures.nodes c.requires.node) (sym c.committing_in.ensures ∙ c.in-Some.is)).place (stays_in g.D.Dir.cells c.reserve.new.self.log c.reserve.new.self.nodes c.in-Some.field-0 c.args.n.0 c.cluster.inside.places.items (stands_is c.in_ok-reserve.ensures.nodes c.in_ok-reserve.ensures.cut c.in_ok-reserve.ensures.log (running_has c.cluster.view_is c.requires.running c.cluster.invariant)).0 (asked_size (λ (k : ℕ). IsNode k c.args.n.0) c.cluster.view_is c.in_ok-reserve.ensures.nodes c.requires.node) (sym c.committing_in.ensures ∙ c.in-Some.is)).there (sym c.has_own_at.ensures ∙ c.if-has_own_at.false) c.note_own.ensures.own;
       none = λ free. absurd (true≢false (sym (stuck_there g.D.Dir.cells c.reserve.new.self.nodes c.reserve.new.self.log c.cluster.inside.places.items c.args.n.0 (asked_size (λ (k : ℕ). IsNode k c.args.n.0) c.cluster.view_is c.in_ok-reserve.ensures.nodes c.requires.node) (stands_is c.in_ok-reserve.ensures.nodes c.in_ok-reserve.ensures.cut c.in_ok-reserve.ensures.log (running_has c.cluster.view_is c.requires.running c.cluster.invariant)).1 (asked_of (λ (l : Log). commit_in_flight c.args.n.0 (printed l) ≡ None) c.cluster.view_is c.in_ok-reserve.ensures.log c.requires.free) (stands_there g.D.Dir.cells c.in-Some.field-0 (place_of c.cluster.inside.places.items c.args.n.0) (sym c.committing_in.ensures ∙ c.in-Some.is))) ∙ asked_of (λ (l : Log). is_stuck c.args.n.0 (printed l) ≡ false) c.cluster.view_is c.in_ok-reserve.ensures.log free));
     }
+
+pub returns-in-Some-clause-rest : goal.returns-in-Some-clause-rest
+returns-in-Some-clause-rest g c =
+    commit_kept g.D.FaultDir.planned c.args.cluster.now _ _ _ _ _ _ c.cluster.inside.places.items c.cluster.inside.places.items (ap (λ (x : Run). x.rest) c.cluster.view_is) refl (c.show.ensures.cut ∙ c.in_ok-reserve.ensures.cut) g.D.Dir.cells c.args.n.0
+    (none_commits g.D.Dir.cells g.D.FaultDir.planned c.args.n.0 c.cluster.inside.places.items) c.note_own.ensures.others
 
 pub returns-in_ok-begin_commit_in-in-None-clause-ok : goal.returns-in_ok-begin_commit_in-in-None-clause-ok
 returns-in_ok-begin_commit_in-in-None-clause-ok g c =
@@ -120,3 +127,8 @@ returns-in_ok-begin_commit_in-in-None-clause-ok g c =
       calls = begun_calls g.D.Dir.cells c.args.n.0 c.args.cluster.now _ c.cluster.inside.carries c.cluster.inside.carries c.cluster.inside.places.items c.begin_commit_in.new.places.items (calls_was c.args.cluster.now _ c.cluster.view_is) refl refl (none_there g.D.Dir.cells c.reserve.new.self.log c.args.n.0 (place_of c.cluster.inside.places.items c.args.n.0) ((stands_is c.in_ok-reserve.ensures.nodes c.in_ok-reserve.ensures.cut c.in_ok-reserve.ensures.log (running_has c.cluster.view_is c.requires.running c.cluster.invariant)).0.each c.args.n.0 (asked_size (λ (k : ℕ). IsNode k c.args.n.0) c.cluster.view_is c.in_ok-reserve.ensures.nodes c.requires.node)) (asked_of (λ (l : Log). is_running c.args.n.0 (printed l) ≡ true) c.cluster.view_is c.in_ok-reserve.ensures.log c.requires.up) (sym c.committing_in.ensures ∙ c.in-None.is)) c.in_ok-begin_commit_in-in-None.ensures;
       none = λ free. rests_here g.D.Dir.cells c.args.n.0 c.args.cluster.now c.cluster.inside.carries c.cluster.inside.places.items (calls_was c.args.cluster.now _ c.cluster.view_is) (sym c.has_own_at.ensures ∙ c.if-has_own_at.false) c.in_ok-begin_commit_in-in-None.ensures.place c.in_ok-begin_commit_in-in-None.ensures.there (none_there g.D.Dir.cells c.reserve.new.self.log c.args.n.0 (place_of c.cluster.inside.places.items c.args.n.0) ((stands_is c.in_ok-reserve.ensures.nodes c.in_ok-reserve.ensures.cut c.in_ok-reserve.ensures.log (running_has c.cluster.view_is c.requires.running c.cluster.invariant)).0.each c.args.n.0 (asked_size (λ (k : ℕ). IsNode k c.args.n.0) c.cluster.view_is c.in_ok-reserve.ensures.nodes c.requires.node)) (asked_of (λ (l : Log). is_running c.args.n.0 (printed l) ≡ true) c.cluster.view_is c.in_ok-reserve.ensures.log c.requires.up) (sym c.committing_in.ensures ∙ c.in-None.is));
     }
+
+pub returns-in_ok-begin_commit_in-in-None-clause-rest : goal.returns-in_ok-begin_commit_in-in-None-clause-rest
+returns-in_ok-begin_commit_in-in-None-clause-rest g c =
+    commit_kept g.D.FaultDir.planned c.args.cluster.now _ _ _ _ _ _ c.cluster.inside.places.items c.begin_commit_in.new.places.items (ap (λ (x : Run). x.rest) c.cluster.view_is) refl (c.show-in-None.ensures.cut ∙ c.in_ok-reserve.ensures.cut) g.D.Dir.cells c.args.n.0
+    (one_commits g.D.Dir.cells g.D.FaultDir.planned HasBegun c.args.n.0 c.cluster.inside.places.items c.begin_commit_in.new.places.items c.in_ok-begin_commit_in-in-None.ensures) (owns_itself c.args.n.0 c.cluster.inside.carries)

@@ -1,10 +1,19 @@
 use Rattle.std.proofs.lemmas.Result.{on_ok_weaker}
 use Rattle.cluster_state.proofs.LifeRows.{reopened, unreopened, runs_told}
+use Rattle.cluster_recovery.proofs.KeptLives.{node_same, alike_plans}
 use Rattle.cluster_recovery.proofs.line_lives.reopen.Goals as goal
 
 pub returns-then-runs-clause-ok : goal.returns-then-runs-clause-ok
 returns-then-runs-clause-ok g c =
     unreopened c.refuse.result c.args.at c.args.n c.args.state.now c.refuse.new.state (runs_told c.args.n.0 _ _ _ _ c.book.ensures.log c.runs.ensures c.if-runs.true) c.refuse.ensures.ok c.refuse.ensures.plans
+
+pub returns-then-runs-clause-rest : goal.returns-then-runs-clause-rest
+returns-then-runs-clause-rest g c =
+    on_ok_weaker c.refuse.result (node_same c.args.n.0 c.args.state.now c.refuse.new.state) c.refuse.ensures.rest
+
+pub returns-then-runs-clause-disks : goal.returns-then-runs-clause-disks
+returns-then-runs-clause-disks g c =
+    on_ok_weaker c.refuse.result (alike_plans c.args.n.0 c.args.state.now c.refuse.new.state) c.refuse.ensures.plans
 
 pub returns-clause-ok : goal.returns-clause-ok
 returns-clause-ok g c =

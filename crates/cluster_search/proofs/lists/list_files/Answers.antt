@@ -1,4 +1,5 @@
 use Rattle.cluster_state.proofs.Frames.{slot_at}
+use Rattle.cluster_search.proofs.DirNames.{names_in_dir}
 use Rattle.cluster_search.proofs.Listing.{running_there, may_tell}
 use Rattle.cluster_state.proofs.Ledgers.{asked_of, fresh_of}
 use Rattle.history_rules.specs.Lines.{entries_of_line}
@@ -20,7 +21,11 @@ note-requires-clause-rule g c =
     may_tell g.D.Dir.cells c.args.cluster.now _ c.cluster.inside.ledger c.cluster.inside.places.items c.args.at c.args.n c.in-Ok.names c.cluster.view_is c.requires.running (two_parts c.cluster.invariant) (fresh_of c.book-book.ensures.log c.is_fresh.ensures) c.requires.node c.requires.up c.in-Ok.ensures
 
 pub returns-clause-ok : goal.returns-clause-ok
-returns-clause-ok g c = record { names = c.in-Ok.names; now = c.in_ok-note.ensures.ok }
+returns-clause-ok g c = record {
+  names = c.in-Ok.names;
+  now = c.in_ok-note.ensures.ok;
+  are = names_in_dir g.D.Dir.cells c.args.cluster.now _ c.cluster.inside.ledger.nodes c.args.n.0 c.cluster.inside.ledger.log _ c.cluster.inside.places.items c.in-Ok.names c.cluster.view_is c.requires.running c.cluster.invariant c.in-Ok.ensures;
+}
 
 pub is_fresh-requires : goal.is_fresh-requires
 is_fresh-requires g c = asked_of (λ (l : Log). entries_of_line c.args.at (printed l) ≡ []) c.cluster.view_is c.book-book.ensures.log c.requires.fresh

@@ -4,12 +4,13 @@ use Rattle.cluster_search.proofs.TicketFiles.{ask_files}
 use Rattle.cluster_state.proofs.Ledgers.{asked_of, fresh_of, legal_of, turns_of}
 use Rattle.history_rules.specs.Lines.{entries_of_line}
 use Rattle.history_book.specs.Log.{Log, printed}
-use Rattle.std.proofs.Common.{◌≡◌, [], refl, ◌∙◌}
+use Rattle.std.proofs.Common.{◌≡◌, [], refl, ◌∙◌, ap}
 use Rattle.cluster_state.proofs.Turning.{fresh_turn_at}
 use Rattle.history_rules.specs.declared.entry.Event.TheVariants.{Asking}
 use Rattle.cluster_state.proofs.MergingPaths.{third_at}
 use Rattle.cluster_state.proofs.MergingStill.{stand_shown, all_keep}
 use Rattle.cluster_state.proofs.RestKept.{kept_rest}
+use Rattle.cluster_state.specs.Run.{Run}
 use Rattle.cluster_search.proofs.reads.ask_ticket.Goals as goal
 
 pub lease_in-requires-clause-slot : goal.lease_in-requires-clause-slot
@@ -47,6 +48,9 @@ is_fresh-requires g c = asked_of (λ (l : Log). entries_of_line c.args.at (print
 
 pub show-requires-clause-turn : goal.show-requires-clause-turn
 show-requires-clause-turn g c = fresh_turn_at c.cluster.inside.ledger c.reserve.new.self c.args.at (Asking c.args.opening.node c.args.t c.args.opening.version) c.in_ok-reserve.ensures.log (fresh_of c.book-book.ensures.log c.is_fresh.ensures) tt
+
+pub returns-clause-plans : goal.returns-clause-plans
+returns-clause-plans g c = ap (λ (r : Run). r.rest.plans) c.cluster.view_is
 
 pub returns-clause-rest : goal.returns-clause-rest
 returns-clause-rest g c = kept_rest c.args.cluster.now _ _ c.cluster.view_is refl (c.show.ensures.cut ∙ c.in_ok-reserve.ensures.cut) refl refl refl refl

@@ -12,6 +12,8 @@ use Rattle.history_rules.specs.declared.entry.Event.TheVariants.{Opened}
 use Rattle.cluster_state.specs.Run.{Run}
 use Rattle.cluster_state.proofs.MergingPaths.{third_at, put_shown, like_want, like_keeps}
 use Rattle.cluster_state.proofs.RestKept.{put_keeps, node_tells}
+use Rattle.cluster_state.specs.PlansIn.{place_plans}
+use Rattle.cluster_state.proofs.Behind.{put_each}
 use Rattle.cluster_search.proofs.reads.open_search.Goals as goal
 
 pub take-place-requires-clause-slot : goal.take-place-requires-clause-slot
@@ -86,6 +88,13 @@ returns-clause-ok g c =
 
 pub version-requires : goal.version-requires
 version-requires g c = asked_size (λ (k : ℕ). IsNode k c.args.n.0) c.cluster.view_is c.book-book.ensures.nodes c.requires.node
+
+pub returns-clause-plans : goal.returns-clause-plans
+returns-clause-plans g c =
+    put_each g.D.Dir.cells (place_plans g.D.FaultDir.planned) c.cluster.inside.places.items c.take-place.new.places.items c.put.new.places.items c.args.n.0 c.hold_ticket-holding.new.place c.take-place.result
+    (record { count = c.take-place.ensures.count; taken = c.take-place.ensures.places; again = c.put.ensures.count; there = c.put.ensures.places })
+    c.take-place.ensures.place (ap g.D.FaultDir.planned c.in_ok-holding.ensures.dir)
+    ∙ ap (λ (r : Run). r.rest.plans) c.cluster.view_is
 
 pub returns-clause-rest : goal.returns-clause-rest
 returns-clause-rest g c =

@@ -1,9 +1,10 @@
 use Rattle.std.proofs.Common.{◌≡◌, take}
 use Rattle.std.specs.Prelude.{reverse}
-use Rattle.std.specs.BTreeMap.{IsOrdered}
-use Rattle.documents.specs.Documents.{documents_in, documents_after, key_cmp}
+use Rattle.documents.specs.Documents.{documents_in, documents_after}
 use Rattle.history_rules.specs.Points.{operations_written}
+use Rattle.history_points.specs.Kept.{IsSearched}
 use Rattle.history_points.proofs.asked.go_on.Given as goal
 
 abbrev pub invariant-loop-i : goal.invariant-loop-i
-invariant-loop-i l = IsOrdered key_cmp l.texts × (documents_in l.texts ≡ documents_after (operations_written (reverse (take l.i l.entries))))
+invariant-loop-i l =
+    IsSearched l.searched × (documents_in l.searched.texts ≡ documents_after (operations_written (reverse (take l.i l.entries))))

@@ -5,7 +5,7 @@ use Rattle.cluster_state.specs.declared.turn.Turn.{Turn}
 use Rattle.cluster_state.specs.declared.turn.Turn.TheVariants.{Work, Done, Busy}
 use Rattle.cluster_state.specs.CopyCalls.{SettleGoesOn}
 use Rattle.lane_sections.specs.Given.{IsRepliedAtDone}
-use Rattle.lane_copies.proofs.JobCalls.{settle_copied, begins_shows, waits_shows, closed_settle}
+use Rattle.lane_copies.proofs.JobCalls.{settle_copied, begins_shows, waits_shows, settle_held, closed_settle}
 use Rattle.lane_copies.proofs.calls.next_job.Goals as goal
 
 pub settle_next-requires-clause-settling : goal.settle_next-requires-clause-settling
@@ -30,3 +30,18 @@ returns-in-Work-clause-ok g c =
     let goes : SettleGoesOn c.args.at c.args.site.now.run c.settle_next.new.self.run c.settle_next.new.task (Work c.in-Work.task) =
     subst (λ (turn : Turn CopyTask). SettleGoesOn c.args.at c.args.site.now.run c.settle_next.new.self.run c.settle_next.new.task turn) c.in-Work.is c.in_ok-settle_next.ensures.ok in
     begins_shows c.args.at c.args.site.now.run c.settle_next.new.self.run c.settle_next.new.task c.in-Work.task goes
+
+pub returns-in-Busy-clause-waits : goal.returns-in-Busy-clause-waits
+returns-in-Busy-clause-waits g c =
+    let goes : SettleGoesOn c.args.at c.args.site.now.run c.settle_next.new.self.run c.settle_next.new.task Busy =
+    subst (λ (turn : Turn CopyTask). SettleGoesOn c.args.at c.args.site.now.run c.settle_next.new.self.run c.settle_next.new.task turn) c.in-Busy.is c.in_ok-settle_next.ensures.ok in
+    settle_held c.args.at c.args.site.now.run c.settle_next.new.self.run c.settle_next.new.task goes
+
+pub returns-then-not-is_open-clause-waits : goal.returns-then-not-is_open-clause-waits
+returns-then-not-is_open-clause-waits g c = tt
+
+pub returns-in-Done-clause-waits : goal.returns-in-Done-clause-waits
+returns-in-Done-clause-waits g c = tt
+
+pub returns-in-Work-clause-waits : goal.returns-in-Work-clause-waits
+returns-in-Work-clause-waits g c = tt

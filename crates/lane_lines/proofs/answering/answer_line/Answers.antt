@@ -3,7 +3,7 @@ use Rattle.std.specs.Prelude.{Option}
 use Rattle.history_rules.specs.declared.entry.Event.{Event}
 use Rattle.history_rules.specs.Lines.{last_of_line}
 use Rattle.history_book.specs.Log.{printed}
-use Rattle.cluster_core.specs.Doing.{AsksFor}
+use Rattle.lane_sections.specs.Given.{AsksFor}
 use Rattle.lane_threads.specs.Seats.{log_seen}
 use Rattle.lane_sections.proofs.Given.{asked_for}
 use Rattle.lane_sections.proofs.Sections.{found_entered, found_legal, call_extends, on_call_ends}

@@ -1,4 +1,4 @@
-use Rattle.cluster_core.specs.Doing.{writing_command}
+use Rattle.lane_sections.specs.Given.{writing_command}
 use Rattle.lane_sections.proofs.Sections.{found_entered, call_extends, on_call_ends}
 use Rattle.lane_lines.proofs.writing.write.Goals as goal
 

@@ -1,15 +1,12 @@
-use Rattle.std.proofs.Common.{ap, sym, ◌∙◌}
-use Rattle.std.specs.List.{list_any}
+use Rattle.std.proofs.Common.{ap, reverse}
 use Rattle.documents.specs.declared.answer.Answer.{Answer}
-use Rattle.documents.specs.Ranking.{is_too_high}
 use Rattle.documents.proofs.RankLemmas.{not_told}
+use Rattle.history_rules.specs.Points.{documents_at}
 use Rattle.point_history.proofs.answers.is_right.Goals as goal
 
-pub returns-clause-right : goal.returns-clause-right
-returns-clause-right c =
-    let high = rw c.in-None.is at c.in_ok-right.ensures in
-    let same_docs = c.as_slice.ensures.value ∙ c.in_ok-docs.ensures.documents in (
+pub returns-in-None-clause-right : goal.returns-in-None-clause-right
+returns-in-None-clause-right c =
+    let high = rw c.in-None.is at c.in_ok-right.ensures.answer in (
       λ e. absurd cc,
-      λ same. absurd (not_told c.args.query.now _ c.args.answer.now.hits c.read_first_rank.ensures
-          (ap (list_any (is_too_high c.args.query.now)) (sym same_docs) ∙ high) (ap (λ (a : Answer). a.hits) same)),
+      λ same. absurd (not_told c.args.query.now (documents_at (reverse c.args.entries.now) c.args.v.0) c.args.answer.now.hits c.read_first_rank.ensures high (ap (λ (a : Answer). a.hits) same)),
     )

@@ -1,4 +1,4 @@
-use Rattle.std.proofs.Common.{refl, [], subst}
+use Rattle.std.proofs.Common.{◌≡◌, refl, [], subst}
 use Rattle.std.specs.Prelude.{IfOk, OnErr, OnOk}
 use Rattle.documents.specs.declared.query.Query.TheVariants.{Word}
 use Rattle.history_book.specs.Log.{printed}
@@ -22,6 +22,9 @@ returns-clause-does g c = λ query. call_does g.D.Dir.cells g.D.Dir.plans c.self
 pub returns-clause-ok : goal.returns-clause-ok
 returns-clause-ok g c =
     subst (λ (s : SiteRun). IfOk c.ask_start.result (AskStarts c.args.at c.args.t s.run c.ask_start.new.self)) c.self.view_is c.ask_start.ensures.ok
+
+pub returns-clause-plans : goal.returns-clause-plans
+returns-clause-plans g c = subst (λ (s : SiteRun). OnOk c.ask_start.result (c.ask_start.new.self.rest.plans ≡ s.run.rest.plans)) c.self.view_is c.ask_start.ensures.plans
 
 pub returns-clause-rest : goal.returns-clause-rest
 returns-clause-rest g c = subst (λ (s : SiteRun). OnOk c.ask_start.result (KeepsRest s.run c.ask_start.new.self)) c.self.view_is c.ask_start.ensures.rest

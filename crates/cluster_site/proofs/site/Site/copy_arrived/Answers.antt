@@ -1,5 +1,5 @@
 use Rattle.std.proofs.Common.{Some, subst, ◌≡◌}
-use Rattle.std.specs.Prelude.{IfOk, OnErr}
+use Rattle.std.specs.Prelude.{IfOk, OnErr, OnOk}
 use Rattle.history_book.specs.Jobs.{job_of}
 use Rattle.history_book.specs.Log.{Log, printed}
 use Rattle.history_rules.specs.Lines.{start_entry}
@@ -11,6 +11,7 @@ use Rattle.cluster_state.specs.Run.{IsEnded}
 use Rattle.cluster_site.proofs.Asked.{copies_quiet, copies_in}
 use Rattle.cluster_site.proofs.Stands.{call_stands, call_does}
 use Rattle.cluster_site.specs.Sites.{SiteRun}
+use Rattle.cluster_state.specs.Keeping.{KeepsButFiles}
 use Rattle.cluster_site.proofs.site.Site.copy_arrived.Goals as goal
 
 pub invariant_of-self : goal.invariant_of-self
@@ -27,6 +28,10 @@ returns-clause-does g c = λ command copies. call_does g.D.Dir.cells g.D.Dir.pla
 pub returns-clause-ok : goal.returns-clause-ok
 returns-clause-ok g c =
     subst (λ (s : SiteRun). IfOk c.copy_arrived.result (λ turn. (row : JobRow) → JobRuns s.run.log row → row.job.at ≡ c.args.at → JobTakes row.job c.args.file.now s.run c.copy_arrived.new.self turn)) c.self.view_is c.copy_arrived.ensures.ok
+
+pub returns-clause-rest : goal.returns-clause-rest
+returns-clause-rest g c =
+    subst (λ (s : SiteRun). OnOk c.copy_arrived.result (KeepsButFiles c.args.task.now.node.0 s.run c.copy_arrived.new.self)) c.self.view_is c.copy_arrived.ensures.rest
 
 pub returns-clause-stops : goal.returns-clause-stops
 returns-clause-stops g c =

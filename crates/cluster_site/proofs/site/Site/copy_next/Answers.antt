@@ -13,6 +13,7 @@ use Rattle.cluster_state.specs.Settles.{IsSettling}
 use Rattle.cluster_site.proofs.Asked.{copies_quiet, copies_in}
 use Rattle.cluster_site.proofs.Stands.{call_stands, call_does}
 use Rattle.cluster_site.specs.Sites.{SiteRun}
+use Rattle.cluster_state.specs.Keeping.{KeepsButFiles}
 use Rattle.cluster_site.proofs.site.Site.copy_next.Goals as goal
 
 pub invariant_of-self : goal.invariant_of-self
@@ -29,6 +30,10 @@ returns-clause-does g c = λ command copies. call_does g.D.Dir.cells g.D.Dir.pla
 pub returns-clause-ok : goal.returns-clause-ok
 returns-clause-ok g c =
     subst (λ (s : SiteRun). IfOk c.copy_next.result (λ turn. (row : JobRow) → JobRuns s.run.log row → row.job.at ≡ c.args.at → JobGoesOn row.job s.run c.copy_next.new.self turn)) c.self.view_is c.copy_next.ensures.ok
+
+pub returns-clause-rest : goal.returns-clause-rest
+returns-clause-rest g c =
+    subst (λ (s : SiteRun). OnOk c.copy_next.result (KeepsButFiles c.args.task.now.node.0 s.run c.copy_next.new.self)) c.self.view_is c.copy_next.ensures.rest
 
 pub returns-clause-stops : goal.returns-clause-stops
 returns-clause-stops g c =

@@ -9,6 +9,7 @@ use Rattle.cluster_state.specs.Run.{IsEnded}
 use Rattle.cluster_core.specs.Doing.{IsBegunAtWork}
 use Rattle.cluster_site.proofs.Stands.{call_stands, call_does}
 use Rattle.cluster_site.specs.Sites.{SiteRun}
+use Rattle.cluster_state.specs.Keeping.{KeepsButBegun}
 use Rattle.cluster_site.proofs.site.Site.copy_start.Goals as goal
 
 pub invariant_of-self : goal.invariant_of-self
@@ -22,6 +23,10 @@ returns-clause-does g c = call_does g.D.Dir.cells g.D.Dir.plans c.self.inside.cl
 pub returns-clause-ok : goal.returns-clause-ok
 returns-clause-ok g c =
     subst (λ (s : SiteRun). IfOk c.copy_start.result (CopyStarts c.args.at c.args.n s.run c.copy_start.new.self)) c.self.view_is c.copy_start.ensures.ok
+
+pub returns-clause-rest : goal.returns-clause-rest
+returns-clause-rest g c =
+    subst (λ (s : SiteRun). IfOk c.copy_start.result (KeepsButBegun s.run c.copy_start.new.self)) c.self.view_is c.copy_start.ensures.rest
 
 pub returns-clause-exact : goal.returns-clause-exact
 returns-clause-exact g c =

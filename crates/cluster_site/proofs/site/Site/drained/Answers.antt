@@ -1,8 +1,9 @@
 use Rattle.std.proofs.Common.{refl, subst}
-use Rattle.std.specs.Prelude.{IfOk, OnErr}
+use Rattle.std.specs.Prelude.{IfOk, OnErr, OnOk}
 use Rattle.script_serving.specs.declared.script.LineCommand.TheVariants.{Drain}
 use Rattle.cluster_state.specs.Run.{IsEnded}
 use Rattle.cluster_merges.specs.TaskCalls.{DrainTurns}
+use Rattle.cluster_merges.specs.MergesKept.{KeepsButTasks}
 use Rattle.cluster_site.proofs.Stands.{call_stands, call_does}
 use Rattle.cluster_site.specs.Sites.{SiteRun}
 use Rattle.cluster_site.proofs.site.Site.drained.Goals as goal
@@ -18,6 +19,9 @@ returns-clause-does g c = call_does g.D.Dir.cells g.D.Dir.plans c.self.inside.cl
 pub returns-clause-ok : goal.returns-clause-ok
 returns-clause-ok g c =
     subst (λ (s : SiteRun). IfOk c.drained.result (DrainTurns c.args.at c.args.most s.run c.drained.new.self)) c.self.view_is c.drained.ensures.ok
+
+pub returns-clause-rest : goal.returns-clause-rest
+returns-clause-rest g c = subst (λ (s : SiteRun). OnOk c.drained.result (KeepsButTasks s.run c.drained.new.self)) c.self.view_is c.drained.ensures.rest
 
 pub returns-clause-err : goal.returns-clause-err
 returns-clause-err g c =

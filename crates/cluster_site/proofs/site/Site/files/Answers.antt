@@ -1,4 +1,4 @@
-use Rattle.std.proofs.Common.{refl, subst}
+use Rattle.std.proofs.Common.{◌≡◌, refl, subst}
 use Rattle.std.specs.Prelude.{OnErr, OnOk}
 use Rattle.script_serving.specs.declared.script.LineCommand.TheVariants.{Files}
 use Rattle.cluster_state.specs.Calls.{ListsFiles}
@@ -17,7 +17,10 @@ returns-clause-does g c = call_does g.D.Dir.cells g.D.Dir.plans c.self.inside.cl
 
 pub returns-clause-ok : goal.returns-clause-ok
 returns-clause-ok g c =
-    subst (λ (s : SiteRun). OnOk c.files.result (ListsFiles c.args.at c.args.n s.run c.files.new.self)) c.self.view_is c.files.ensures.ok
+    subst (λ (s : SiteRun). OnOk c.files.result (ListsFiles g.D.Dir.cells c.args.at c.args.n s.run c.files.new.self)) c.self.view_is c.files.ensures.ok
+
+pub returns-clause-plans : goal.returns-clause-plans
+returns-clause-plans g c = subst (λ (s : SiteRun). OnOk c.files.result (c.files.new.self.rest.plans ≡ s.run.rest.plans)) c.self.view_is c.files.ensures.plans
 
 pub returns-clause-rest : goal.returns-clause-rest
 returns-clause-rest g c = subst (λ (s : SiteRun). OnOk c.files.result (KeepsRest s.run c.files.new.self)) c.self.view_is c.files.ensures.rest

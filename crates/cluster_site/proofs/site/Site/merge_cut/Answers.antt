@@ -1,7 +1,8 @@
 use Rattle.std.proofs.Common.{subst}
-use Rattle.std.specs.Prelude.{IfOk, OnErr}
+use Rattle.std.specs.Prelude.{IfOk, OnErr, OnOk}
 use Rattle.cluster_state.specs.Run.{IsEnded}
 use Rattle.cluster_merges.specs.TaskCalls.{CutTurns}
+use Rattle.cluster_merges.specs.MergesKept.{KeepsButCut}
 use Rattle.cluster_site.proofs.Stands.{task_stands, task_does}
 use Rattle.cluster_site.specs.Sites.{SiteRun}
 use Rattle.cluster_site.proofs.site.Site.merge_cut.Goals as goal
@@ -17,6 +18,9 @@ returns-clause-does g c = task_does g.D.Dir.cells g.D.Dir.plans c.self.inside.cl
 pub returns-clause-ok : goal.returns-clause-ok
 returns-clause-ok g c =
     subst (λ (s : SiteRun). IfOk c.merge_cut.result (CutTurns c.args.task.now.line c.args.task.now.seg c.args.task.now.by s.run c.merge_cut.new.self)) c.self.view_is c.merge_cut.ensures.ok
+
+pub returns-clause-rest : goal.returns-clause-rest
+returns-clause-rest g c = subst (λ (s : SiteRun). OnOk c.merge_cut.result (KeepsButCut s.run c.merge_cut.new.self)) c.self.view_is c.merge_cut.ensures.rest
 
 pub returns-clause-err : goal.returns-clause-err
 returns-clause-err g c =

@@ -3,6 +3,7 @@ use Rattle.std.specs.Prelude.{OnErr, OnOk}
 use Rattle.script_serving.specs.declared.script.LineCommand.TheVariants.{Merge}
 use Rattle.cluster_state.specs.Run.{IsEnded}
 use Rattle.cluster_merges.specs.TaskCalls.{MergeLine}
+use Rattle.cluster_merges.specs.MergesKept.{KeepsButSizes}
 use Rattle.cluster_site.proofs.Stands.{call_stands, call_does}
 use Rattle.cluster_site.specs.Sites.{SiteRun}
 use Rattle.cluster_site.proofs.site.Site.merge_start.Goals as goal
@@ -18,6 +19,9 @@ returns-clause-does g c = call_does g.D.Dir.cells g.D.Dir.plans c.self.inside.cl
 pub returns-clause-ok : goal.returns-clause-ok
 returns-clause-ok g c =
     subst (λ (s : SiteRun). OnOk c.merge_start.result (MergeLine c.args.at c.args.factor s.run c.merge_start.new.self)) c.self.view_is c.merge_start.ensures.ok
+
+pub returns-clause-rest : goal.returns-clause-rest
+returns-clause-rest g c = subst (λ (s : SiteRun). OnOk c.merge_start.result (KeepsButSizes s.run c.merge_start.new.self)) c.self.view_is c.merge_start.ensures.rest
 
 pub returns-clause-err : goal.returns-clause-err
 returns-clause-err g c =

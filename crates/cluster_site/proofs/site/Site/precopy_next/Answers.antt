@@ -2,6 +2,7 @@ use Rattle.std.proofs.Common.{subst}
 use Rattle.std.specs.Prelude.{IfOk, OnErr}
 use Rattle.cluster_state.specs.Run.{IsEnded}
 use Rattle.cluster_merges.specs.TaskCalls.{PrecopyTurns}
+use Rattle.cluster_merges.specs.MergesKept.{KeepsCopyTurn}
 use Rattle.cluster_site.proofs.Stands.{task_stands, task_does}
 use Rattle.cluster_site.specs.Sites.{SiteRun}
 use Rattle.cluster_site.proofs.site.Site.precopy_next.Goals as goal
@@ -17,6 +18,9 @@ returns-clause-does g c = task_does g.D.Dir.cells g.D.Dir.plans c.self.inside.cl
 pub returns-clause-ok : goal.returns-clause-ok
 returns-clause-ok g c =
     subst (λ (s : SiteRun). IfOk c.precopy_next.result (PrecopyTurns c.args.task.now.line c.args.task.now.seg c.args.task.now.by c.args.copy.node c.args.copy.job s.run c.precopy_next.new.self)) c.self.view_is c.precopy_next.ensures.ok
+
+pub returns-clause-rest : goal.returns-clause-rest
+returns-clause-rest g c = subst (λ (s : SiteRun). IfOk c.precopy_next.result (KeepsCopyTurn c.args.copy.node.0 s.run c.precopy_next.new.self)) c.self.view_is c.precopy_next.ensures.rest
 
 pub returns-clause-err : goal.returns-clause-err
 returns-clause-err g c =

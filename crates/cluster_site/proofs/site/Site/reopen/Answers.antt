@@ -2,9 +2,10 @@ use Rattle.std.proofs.Common.{refl, subst}
 use Rattle.std.specs.Prelude.{OnErr, OnOk}
 use Rattle.script_serving.specs.declared.script.LineCommand.TheVariants.{Reopen}
 use Rattle.cluster_state.specs.LifeCalls.{ReopensNode}
-use Rattle.cluster_state.specs.Run.{IsEnded}
+use Rattle.cluster_state.specs.Run.{IsEnded, plans_at}
 use Rattle.cluster_site.proofs.Stands.{call_stands, call_does}
 use Rattle.cluster_site.specs.Sites.{SiteRun}
+use Rattle.cluster_state.specs.Keeping.{TellsSameOfOthers, KeepsButNode}
 use Rattle.cluster_site.proofs.site.Site.reopen.Goals as goal
 
 pub invariant_of-self : goal.invariant_of-self
@@ -18,6 +19,14 @@ returns-clause-does g c = call_does g.D.Dir.cells g.D.Dir.plans c.self.inside.cl
 pub returns-clause-ok : goal.returns-clause-ok
 returns-clause-ok g c =
     subst (λ (s : SiteRun). OnOk c.reopen.result (ReopensNode c.args.at c.args.n s.run c.reopen.new.self)) c.self.view_is c.reopen.ensures.ok
+
+pub returns-clause-rest : goal.returns-clause-rest
+returns-clause-rest g c =
+    subst (λ (s : SiteRun). OnOk c.reopen.result (KeepsButNode c.args.n.0 s.run c.reopen.new.self)) c.self.view_is c.reopen.ensures.rest
+
+pub returns-clause-disks : goal.returns-clause-disks
+returns-clause-disks g c =
+    subst (λ (s : SiteRun). OnOk c.reopen.result (TellsSameOfOthers plans_at c.args.n.0 s.run c.reopen.new.self)) c.self.view_is c.reopen.ensures.disks
 
 pub returns-clause-err : goal.returns-clause-err
 returns-clause-err g c =

@@ -1,4 +1,4 @@
-use Rattle.std.proofs.Common.{refl, [], subst}
+use Rattle.std.proofs.Common.{◌≡◌, refl, [], subst}
 use Rattle.std.specs.Prelude.{IfOk, OnErr, OnOk}
 use Rattle.documents.specs.declared.query.Query.TheVariants.{Word}
 use Rattle.script_serving.specs.declared.script.LineCommand.TheVariants.{Search}
@@ -19,6 +19,9 @@ returns-clause-does g c = λ query. call_does g.D.Dir.cells g.D.Dir.plans c.self
 pub returns-clause-ok : goal.returns-clause-ok
 returns-clause-ok g c =
     subst (λ (s : SiteRun). IfOk c.search_start.result (SearchStarts c.args.at c.args.n s.run c.search_start.new.self)) c.self.view_is c.search_start.ensures.ok
+
+pub returns-clause-plans : goal.returns-clause-plans
+returns-clause-plans g c = subst (λ (s : SiteRun). OnOk c.search_start.result (c.search_start.new.self.rest.plans ≡ s.run.rest.plans)) c.self.view_is c.search_start.ensures.plans
 
 pub returns-clause-rest : goal.returns-clause-rest
 returns-clause-rest g c = subst (λ (s : SiteRun). OnOk c.search_start.result (KeepsRest s.run c.search_start.new.self)) c.self.view_is c.search_start.ensures.rest

@@ -1,7 +1,8 @@
 use Rattle.std.proofs.Common.{subst}
-use Rattle.std.specs.Prelude.{IfOk, OnErr}
+use Rattle.std.specs.Prelude.{IfOk, OnErr, OnOk}
 use Rattle.cluster_state.specs.Run.{IsEnded}
 use Rattle.cluster_merges.specs.MergePaths.{TakesTask}
+use Rattle.cluster_merges.specs.MergesKept.{KeepsButTasks}
 use Rattle.cluster_site.proofs.Stands.{task_stands, task_does}
 use Rattle.cluster_site.specs.Sites.{SiteRun}
 use Rattle.cluster_site.proofs.site.Site.task_take.Goals as goal
@@ -17,6 +18,9 @@ returns-clause-does g c = task_does g.D.Dir.cells g.D.Dir.plans c.self.inside.cl
 pub returns-clause-ok : goal.returns-clause-ok
 returns-clause-ok g c =
     subst (λ (s : SiteRun). IfOk c.task_take.result (TakesTask c.args.by s.run c.task_take.new.self)) c.self.view_is c.task_take.ensures.ok
+
+pub returns-clause-rest : goal.returns-clause-rest
+returns-clause-rest g c = subst (λ (s : SiteRun). OnOk c.task_take.result (KeepsButTasks s.run c.task_take.new.self)) c.self.view_is c.task_take.ensures.rest
 
 pub returns-clause-err : goal.returns-clause-err
 returns-clause-err g c =

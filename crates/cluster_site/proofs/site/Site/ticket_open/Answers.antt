@@ -1,4 +1,4 @@
-use Rattle.std.proofs.Common.{refl, subst, ◌∷◌}
+use Rattle.std.proofs.Common.{◌≡◌, refl, subst, ◌∷◌}
 use Rattle.std.specs.Prelude.{OnErr, OnOk}
 use Rattle.history_book.specs.Log.{printed, shown}
 use Rattle.script_serving.specs.declared.script.LineCommand.TheVariants.{Open}
@@ -19,6 +19,9 @@ returns-clause-does g c = call_does g.D.Dir.cells g.D.Dir.plans c.self.inside.cl
 pub returns-clause-ok : goal.returns-clause-ok
 returns-clause-ok g c =
     subst (λ (s : SiteRun). OnOk c.ticket_open.result (IsNow s.run c.ticket_open.new.self (shown c.args.at (open_event c.args.at.lane.0 c.args.n c.args.t (printed s.run.log)) ∷ s.run.log))) c.self.view_is c.ticket_open.ensures.ok
+
+pub returns-clause-plans : goal.returns-clause-plans
+returns-clause-plans g c = subst (λ (s : SiteRun). OnOk c.ticket_open.result (c.ticket_open.new.self.rest.plans ≡ s.run.rest.plans)) c.self.view_is c.ticket_open.ensures.plans
 
 pub returns-clause-rest : goal.returns-clause-rest
 returns-clause-rest g c = subst (λ (s : SiteRun). OnOk c.ticket_open.result (KeepsRest s.run c.ticket_open.new.self)) c.self.view_is c.ticket_open.ensures.rest

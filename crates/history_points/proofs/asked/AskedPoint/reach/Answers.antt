@@ -7,6 +7,6 @@ go_on-requires-clause-texts c = asked_texts c.args.entries.now c.args.self.now c
 
 pub returns-clause-reached : goal.returns-clause-reached
 returns-clause-reached c = λ reached. (
-  asked_there c.args.entries.now c.args.self.now _ c.args.place c.requires.asked c.requires.within refl refl c.in_ok-reached.ensures.ordered (c.in_ok-reached.ensures.texts reached),
+  asked_there c.args.entries.now c.args.self.now _ c.args.place c.requires.asked c.requires.within refl refl c.in_ok-reached.ensures.kept (c.in_ok-reached.ensures.texts reached),
   refl,
 )

@@ -1,0 +1,62 @@
+-- The directory of the files that were read is the one that they were read from.
+use Rattle.std.proofs.Common.{◌≡◌, ◌∙◌, ℕ, List, [], ◌∷◌, map, Bool, true, false, ◌&&◌, ◌||◌, if◌then◌else◌, Some, None, refl, sym, ap, subst}
+use Rattle.std.specs.Prelude.{is_some}
+use Rattle.std.specs.List.{All}
+use Rattle.std.specs.List.Sorted.{IsStrictlySortedBy}
+use Rattle.std.proofs.lemmas.List.Elements.{All-head, All-tail}
+use Rattle.std.specs.Cmp.Lexicographic.{slice_cmp}
+use Rattle.std.specs.Ordering.{nat_cmp}
+use Rattle.std.proofs.lemmas.Slice.Eq.{bytes_eq-Decides}
+use Rattle.file_names.specs.Names.{is_ascending, is_less}
+use Rattle.disk_model.specs.Disk.{Name, Content, Cells, Image, same, is_among, put, reads_of}
+use Rattle.disk_model.specs.Listed.{AreNamesOf}
+use Rattle.index_check.specs.Images.{NamedFile, IsImageOf}
+use Rattle.index_check.specs.Directory.{after_puts, directory_with}
+use Rattle.dir_image.specs.ImagesNow.{AreReadAs, IsImageNow}
+
+ascends : (names : List Name) → IsStrictlySortedBy (slice_cmp nat_cmp) names → is_ascending names ≡ true
+unfolding IsStrictlySortedBy
+ascends [] sorted = refl
+ascends (a ∷ []) sorted = refl
+ascends (a ∷ b ∷ names) sorted = ap (λ (x : _). is_less x && is_ascending (b ∷ names)) sorted.0.0 ∙ ascends (b ∷ names) sorted.1
+
+-- the names of files that were read ascend
+pub files_ascend : (cells : Cells) (reads : Image) (names shown : List Name) (files given : List NamedFile) → shown ≡ names → given ≡ files → AreReadAs reads shown files → AreNamesOf cells names
+    → is_ascending (map (λ f. f.0) given) ≡ true
+files_ascend cells reads names shown files given same whole read listed =
+    ap (λ (fs : List NamedFile). is_ascending (map (λ f. f.0) fs)) whole ∙ (ap is_ascending (read.called ∙ same) ∙ ascends names listed.ascending)
+
+abbrev names_in : List NamedFile → List Name
+names_in files = map (λ f. f.0) files
+
+-- what stands under a name after these files were put there
+stands : (reads image : Image) (files : List NamedFile) (q : Name) → All (λ f. reads f.0 ≡ Some f.1) files
+    → after_puts image files q ≡ (if is_among (names_in files) q then reads q else image q)
+stands reads image [] q all = refl
+stands reads image (f ∷ files) q all =
+    stands reads (put image f.0 (Some f.1)) files q (All-tail (λ (g : NamedFile). reads g.0 ≡ Some g.1) f files all) ∙ by_test (same f.0 q) (is_among (names_in files) q) refl
+  where
+    by_test : (here later : Bool) → same f.0 q ≡ here → (if later then reads q else if here then Some f.1 else image q) ≡ (if here || later then reads q else image q)
+    by_test true true is = refl
+    by_test true false is = let here : f.0 ≡ q = (bytes_eq-Decides f.0 q).0 is in subst (λ (name : Name). Some f.1 ≡ reads name) here (sym (All-head (λ (g : NamedFile). reads g.0 ≡ Some g.1) f files all))
+    by_test false true is = refl
+    by_test false false is = refl
+
+whole : (reads : Image) (files : List NamedFile) → All (λ f. reads f.0 ≡ Some f.1) files → ((q : Name) → is_among (names_in files) q ≡ is_some (reads q)) → directory_with files ≡ reads
+whole reads files all there = λ i q. each q i
+  where
+    chosen : (o : Content) → (if is_some o then o else None) ≡ o
+    chosen None = refl
+    chosen (Some bytes) = refl
+
+    each : (q : Name) → directory_with files q ≡ reads q
+    each q = stands reads (λ _. None) files q all ∙ ap (λ (b : Bool). if b then reads q else None) (there q) ∙ chosen (reads q)
+
+-- the image of the files of all names of a directory is its image
+pub image_now : (cells : Cells) (names : List Name) (files : List NamedFile) (bytes : List ℕ) → AreReadAs (reads_of cells) names files → AreNamesOf cells names → IsImageOf bytes files
+    → IsImageNow (reads_of cells) bytes
+image_now cells names files bytes read listed image = record {
+  files = files;
+  image = image;
+  same = whole (reads_of cells) files read.bytes (λ q. ap (λ (ns : List Name). is_among ns q) read.called ∙ listed.told q);
+}
