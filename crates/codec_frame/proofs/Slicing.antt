@@ -7,7 +7,7 @@ use Rattle.std.specs.Int.{w64, from_le_bytes}
 use Rattle.std.specs.Int.Bits.{xor_zero_r, xor_shifted}
 use Rattle.std.proofs.lemmas.Nat.{xor_comm, shr-shr}
 use Rattle.byteorder.specs.Endian.{little_number}
-use Rattle.codec_frame.specs.declared.tables.TheConstants.{TABLES}
+use Rattle.codec_frame.specs.declared.tables.TheConstants.{LAST, PASSED}
 use Rattle.codec_frame.specs.Register.{step, steps, taken_in}
 use Rattle.codec_frame.specs.Bytes.{AreBytes}
 use Rattle.codec_frame.proofs.Steps.{steps-xor, steps-shifted, steps-add, steps-zero}
@@ -22,9 +22,13 @@ unfoldable are_rows : ℕ → List (List ℕ) → Bool
 are_rows k [] = true
 are_rows k (r ∷ rs) = is_row (8 * k) 0 r && are_rows (suc k) rs
 
-tables_are_right : are_rows 1 TABLES ≡ true
+last_is_right : are_rows 1 LAST ≡ true
 unfolding are_rows is_row steps step
-tables_are_right = refl
+last_is_right = refl
+
+passed_is_right : are_rows 17 PASSED ≡ true
+unfolding are_rows is_row steps step
+passed_is_right = refl
 
 is_row-at : (k b i : ℕ) (xs : List ℕ) → is_row k b xs ≡ true → i < length xs → get_or xs i 0 ≡ steps k (b + i)
 unfolding is_row
@@ -61,11 +65,17 @@ long_rows-at j [] e h = absurd (omega arith)
 long_rows-at zero (r ∷ rs) e h = eqb-true _ _ (and_parts (eqb (length r) 256) (long_rows rs) e).0
 long_rows-at (suc j) (r ∷ rs) e h = long_rows-at j rs (and_parts (eqb (length r) 256) (long_rows rs) e).1 (omega arith)
 
-pub table_entry : (k b : ℕ) → k < 24 → b < 256 → get_or (get_or TABLES k []) b 0 ≡ steps (8 * (k + 1)) b
-table_entry k b hk hb =
-    let len : length (get_or TABLES k []) ≡ 256 = long_rows-at k TABLES refl hk in
-    let n : 1 + k ≡ k + 1 = omega arith in
-    are_rows-at 1 k b TABLES tables_are_right hk (omega arith) ∙ ap (λ (m : ℕ). steps (8 * m) b) n
+row_entry : (first k b : ℕ) (rows : List (List ℕ)) → are_rows first rows ≡ true → long_rows rows ≡ true → k < length rows → b < 256 → get_or (get_or rows k []) b 0 ≡ steps (8 * (k + first)) b
+row_entry first k b rows right long hk hb =
+    let len : length (get_or rows k []) ≡ 256 = long_rows-at k rows long hk in
+    let n : first + k ≡ k + first = omega arith in
+    are_rows-at first k b rows right hk (omega arith) ∙ ap (λ (m : ℕ). steps (8 * m) b) n
+
+pub last_entry : (k b : ℕ) → k < 8 → b < 256 → get_or (get_or LAST k []) b 0 ≡ steps (8 * (k + 1)) b
+last_entry k b hk hb = row_entry 1 k b LAST last_is_right refl hk hb
+
+pub passed_entry : (k b : ℕ) → k < 8 → b < 256 → get_or (get_or PASSED k []) b 0 ≡ steps (8 * (k + 17)) b
+passed_entry k b hk hb = row_entry 17 k b PASSED passed_is_right refl hk hb
 
 -- the bytes of a word, each through the steps that are left for it
 pub steps-byte : (k w : ℕ) → steps (8 * (k + 1)) w ≡ bit_xor (steps (8 * (k + 1)) (w % 256)) (steps (8 * k) (w / 256))

@@ -4,7 +4,7 @@ ghost use Rattle.std.specs.Prelude.{◌≡◌, ◌+◌, ◌*◌, ◌%◌, ◌<�
 ghost use Rattle.codec_frame.specs.Division.{IsCrc, crc_of};
 ghost use Rattle.codec_frame.specs.Register.{steps, taken_in};
 
-use crate::tables::TABLES;
+use crate::tables::{LAST, PASSED};
 use byteorder::{ByteOrder, LittleEndian};
 
 /// The CRC-32 of the bytes, as zlib computes it: the reflected polynomial edb88320, with ffffffff
@@ -94,14 +94,14 @@ fn take_in_byte(register: u32, byte: u8) -> u32
 fn sixteen_before(word: u64) -> u32
     ensures { result ≡ steps 192 word }
 {
-    entry(16, word >> 56)
-        ^ entry(17, word >> 48)
-        ^ entry(18, word >> 40)
-        ^ entry(19, word >> 32)
-        ^ entry(20, word >> 24)
-        ^ entry(21, word >> 16)
-        ^ entry(22, word >> 8)
-        ^ entry(23, word)
+    passed(0, word >> 56)
+        ^ passed(1, word >> 48)
+        ^ passed(2, word >> 40)
+        ^ passed(3, word >> 32)
+        ^ passed(4, word >> 24)
+        ^ passed(5, word >> 16)
+        ^ passed(6, word >> 8)
+        ^ passed(7, word)
 }
 
 // What a word gives that nothing follows.
@@ -122,8 +122,17 @@ fn eight_last(word: u64) -> u32
 // What the lowest byte of a word gives where k more bytes follow it.
 #[inline(always)]
 fn entry(k: usize, word: u64) -> u32
-    requires { k < 24 }
+    requires { k < 8 }
     ensures { result ≡ steps (8 * (k + 1)) (word % 256) }
 {
-    TABLES[k][(word & 0xff) as usize]
+    LAST[k][(word & 0xff) as usize]
+}
+
+// What the lowest byte of a word gives where k more bytes and two words follow it.
+#[inline(always)]
+fn passed(k: usize, word: u64) -> u32
+    requires { k < 8 }
+    ensures { result ≡ steps (8 * (k + 17)) (word % 256) }
+{
+    PASSED[k][(word & 0xff) as usize]
 }
