@@ -3,7 +3,7 @@ use Rattle.std.proofs.Common.{◌≡◌, ◌≢◌, ◌<◌, ℕ, false, List, [
 use Rattle.std.specs.Io.KnownBytes.{Appends}
 use Rattle.disk_model.specs.Disk.{Name, reads_of}
 use Rattle.disk_memory.specs.declared.memory.MemDir.{MemDir}
-use Rattle.disk_memory.specs.Memory.{cells_in}
+use Rattle.disk_memory.specs.Memory.{cells_in, names_on}
 use Rattle.index_check.specs.Images.{NamedFile}
 use Rattle.dir_image.specs.ImagesNow.{AreReadAs, IsImageNow}
 use Rattle.copy_state.specs.declared.state.CopyState.{CopyState}
@@ -36,7 +36,7 @@ module _ (script : Script) (r : Run) (n : ℕ) (running : r.ended ≡ false) (le
   has_run : (bytes : List ℕ) → SpellsScript bytes script → HasRun bytes r
   has_run bytes grammar = record { script = script; grammar = grammar; running = running; legal = legal; serves = serves; told = told }
 
-  pub node_image : (dir : MemDir) (text : List ℕ) → IsNodeDir cells_in r n dir → (is_running n (printed r.log) ≡ false → FindsVersion (printed r.log) n (reads_of (cells_in dir)))
+  pub node_image : (dir : MemDir) (text : List ℕ) → IsNodeDir cells_in names_on r n dir → (is_running n (printed r.log) ≡ false → FindsVersion (printed r.log) n (reads_of (cells_in dir)))
       → IsImageNow (reads_of (cells_in dir)) text → (bytes : List ℕ) → SpellsScript bytes script → IsNodeImage bytes n text
   node_image dir text is down image bytes grammar =
       record { run = r; ran = has_run bytes grammar; node = (node_of_run script r n serves node).1; dir = dir; is = is; down = down; image = image }
