@@ -1,5 +1,5 @@
 -- What stands in the places of a cluster that runs stands as callers see it, and so do the names of files.
-use Rattle.std.proofs.Common.{◌≡◌, ◌==◌, ◌∙◌, ℕ, zero, suc, false, List, [], Option, Some, None, refl, ap, sym, subst, slice_get, length}
+use Rattle.std.proofs.Common.{◌≡◌, ◌==◌, ◌∙◌, ℕ, zero, suc, Bool, false, List, [], Option, Some, None, refl, ap, sym, subst, slice_get, length}
 use Rattle.std.specs.Prelude.{unwrap_or, option_map}
 use Rattle.std.proofs.lemmas.Option.{slice_get-map}
 use Rattle.disk_model.specs.Disk.{Name, Cells}

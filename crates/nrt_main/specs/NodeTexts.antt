@@ -71,7 +71,7 @@ pub record IsNodeCopy (bytes : List ℕ) (n : ℕ) (text : List ℕ) : Type 0 wh
   pub state : CopyState
   pub lacking : List Name
   pub dir : MemDir
-  pub is : IsSend cells_in run n state lacking dir
+  pub is : IsSend cells_in names_on run n state lacking dir
   pub frames : AreCopyFrames state lacking dir text
 
 -- a cluster has run the script that the bytes are, and no copy to its node n can begin: no primary runs, or the node is down or is the primary

@@ -4,8 +4,6 @@ use Rattle.cluster_state.proofs.Frames.{noted, rule_at, told_at}
 use Rattle.cluster_state.proofs.FileFrames.{files_noted}
 use Rattle.cluster_state.proofs.Ledgers.{still_apart, still_reigns}
 use Rattle.cluster_state.proofs.RestKept.{kept_rest}
-use Rattle.cluster_state.proofs.NodeDirs.{node_dir}
-use Rattle.cluster_state.proofs.KeptOthers.{all_kept}
 use Rattle.cluster_state.proofs.MergingStill.{stand_shown, all_keep}
 use Rattle.cluster_state.proofs.MergingPaths.{third_at, still_leaves}
 use Rattle.cluster_state.proofs.cluster.ClusterState.note.Goals as goal
