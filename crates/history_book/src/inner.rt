@@ -34,11 +34,12 @@ pub enum Inner {
     FlushEnd {
         at: At,
     },
-    /// A merge into this segment was handed out, with its inputs as they were.
+    /// A merge into this segment was handed out, with its inputs as they were, and the sizes of all segments, of which it was chosen.
     MergeOut {
         line: LineNo,
         seg: SegNo,
         inputs: List<Segment>,
+        sizes: List<Option<u32>>,
     },
     /// That merge has ended, cut over or not.
     MergeEnd {
