@@ -87,12 +87,12 @@ pub enum Inner {
     },
 }
 
-/// What stands next in the list: a printed entry, one that is a fault of a merge's task, or this inner one.
-#[derive(Debug, Drop)]
+/// What stands next in the list: a printed entry, one that is a fault of a merge's task, or one of inner work.
+#[derive(Clone, Copy, Debug, PartialEq, Eq)]
 pub enum Stop {
     Printed,
     Task,
-    Inner(Inner),
+    Inner,
 }
 
 /// An entry of the one list.
