@@ -25,6 +25,14 @@ use Rattle.cluster_nodes.specs.declared.went.Went.{Went}
 use Rattle.cluster_nodes.specs.declared.went.Went.TheVariants.{Done, Failed}
 use Rattle.cluster_nodes.specs.Went.{ByWent}
 
+-- two numbers differ both ways
+apart_turned : (p n : ℕ) → (p == n) ≡ false → (n == p) ≡ false
+apart_turned p n apart = tests (n == p) refl
+  where
+    tests : (b : Bool) → (n == p) ≡ b → (n == p) ≡ false
+    tests true here = ap (λ (k : ℕ). k == p) (eqb-true n p here) ∙ (ap (λ (k : ℕ). p == k) (sym (eqb-true n p here)) ∙ apart)
+    tests false away = away
+
 module _ {D : Type 0} where
   pub primary_some : (o : Option (NodePlace D)) → HasPrimary o → o ≢ None
   primary_some None has = λ none. has
@@ -154,7 +162,7 @@ module _ {D : Type 0} where
 
   -- ---- a replica was taken out, changed and put back
 
-  parts_of : ReplicaParts D → NodePlace D → ReplicaParts D
+  abbrev parts_of : ReplicaParts D → NodePlace D → ReplicaParts D
   parts_of r place = elim place.node [ Primary q ↦ r | Replica s ↦ s | Down d ↦ r ]
 
   -- one replica alone stands in a place
@@ -165,13 +173,6 @@ module _ {D : Type 0} where
       let y : NodePlace D = record { node = Replica s; held = k } in
       let same : y ≡ x = same_Some y x (sym second ∙ first) in
       (ap (parts_of r) same, ap (λ (z : NodePlace D). z.held) same)
-
-  apart_turned : (p n : ℕ) → (p == n) ≡ false → (n == p) ≡ false
-  apart_turned p n apart = tests (n == p) refl
-    where
-      tests : (b : Bool) → (n == p) ≡ b → (n == p) ≡ false
-      tests true here = ap (λ (k : ℕ). k == p) (eqb-true n p here) ∙ (ap (λ (k : ℕ). p == k) (sym (eqb-true n p here)) ∙ apart)
-      tests false away = away
 
   module _ (cells : D → Cells) (old mid back : List (Option (NodePlace D))) (n : ℕ) (r s : ReplicaParts D) (held : Vec HeldTicket Global) (slot : IsSlot old n)
       (cm : length mid ≡ length old) (tm : (m : ℕ) → place_of mid m ≡ (if n == m then None else place_of old m)) (cn : length back ≡ length mid)
