@@ -12,7 +12,7 @@ use Rattle.lane_threads.specs.declared.run.Setup.{Setup}
 use Rattle.lane_threads.specs.Idle.{TellsNone}
 use Rattle.lane_threads.specs.Firsts.{TellsFirst}
 use Rattle.lane_threads.proofs.WalkLemmas.{call_faults, task_faults}
-use Rattle.lane_threads.proofs.IdleLemmas.{apart_none, apart_first}
+use Rattle.lane_threads.proofs.IdleLemmas.{is_publish, is_merge, apart_none, apart_first}
 use Rattle.trans_log.specs.declared.record.LogOp.{LogOp}
 use Rattle.trans_log.specs.declared.log.TransLog.{TransLog}
 use Rattle.cluster_state.specs.Run.{Run, IsEnded}
@@ -27,6 +27,14 @@ site_of r log = record { run = r; kept = records_of log }
 
 pub runs_was : {D : Type 0} (r : Run) (log : Option (TransLog D)) (s : SiteRun) → site_of r log ≡ s → s.run.ended ≡ false → r.ended ≡ false
 runs_was r log s is running = ap (λ (x : SiteRun). x.run.ended) is ∙ running
+
+-- a call of a line that asks for no publish answers `none` to none
+pub none_of : {X E : Type 0} (command : LineCommand) (at : At) (old new : Run) (r : Result X E) → is_publish command ≡ false → OnOk r (Does command at old new) → OnOk r (TellsNone command old.log new.log)
+none_of command at old new r apart does = on_ok_weaker r (λ (d : Does command at old new). apart_none command at old.log new.log apart d.goes) does
+
+-- and one that asks for no merge starts none
+pub first_of : {X E : Type 0} (command : LineCommand) (at : At) (old new : Run) (r : Result X E) → is_merge command ≡ false → OnOk r (Does command at old new) → OnOk r (TellsFirst command old.log new.log)
+first_of command at old new r apart does = on_ok_weaker r (λ (d : Does command at old new). apart_first command at old.log new.log apart d.goes) does
 
 module _ {D : Type 0} (cells : D → Cells) (plans : D → Option Plans) (old new : Run) (log : Option (TransLog D)) (s : SiteRun) (view : site_of old log ≡ s) (running : s.run.ended ≡ false) (was : SiteStands cells plans old log) where
   runs : old.ended ≡ false
@@ -74,8 +82,7 @@ module _ {D : Type 0} (cells : D → Cells) (plans : D → Option Plans) (old ne
     -- what that did
     pub call_does : {X E : Type 0} (r : Result X E) → OnOk r (Does command at old new) → OnOk r (DoesAtSite command at s (site_of new log))
     call_does r does =
-        line_does command at (quiet_unlogged command quiet) r (on_ok_weaker r (λ (d : Does command at old new). apart_none command at old.log new.log (quiet_apart command quiet) d.goes) does)
-        (on_ok_weaker r (λ (d : Does command at old new). apart_first command at old.log new.log (quiet_unmerged command quiet) d.goes) does) does
+        line_does command at (quiet_unlogged command quiet) r (none_of command at old new r (quiet_apart command quiet) does) (first_of command at old new r (quiet_unmerged command quiet) does) does
 
   module _ (by : Option At) where
     task_done : DoesTask by old new → SiteStands cells plans new log
