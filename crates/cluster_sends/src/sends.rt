@@ -12,6 +12,7 @@ use cluster_state::ClusterState;
 use copy_state::CopyState;
 use disk_model::{Dir, FaultDir};
 use file_names::FileName;
+use index_primary::PrimaryFault;
 use nrt_base::{NoMemory, NodeNo};
 use std::alloc::{AllocError, Global};
 
@@ -62,7 +63,8 @@ fn state_of<D: FaultDir + Drop>(
     primary.stop_at(u64::MAX);
     match primary.take_state(alloc) {
         Ok(state) => Ok(state),
-        Err(_) => Err(AllocError),
+        Err(PrimaryFault::Memory) => Err(AllocError),
+        Err(PrimaryFault::Failed) => unreachable!(),
     }
 }
 
