@@ -2,13 +2,14 @@
 use Rattle.std.proofs.Common.{◌≡◌, ℕ, zero, suc, ◌+◌, ◌≤◌, List, [], ◌∷◌, ◌++◌, length, map, take, get_or, true, false, Bool, inl, inr, refl, sym, ap, subst, ◌∙◌, arith}
 use Rattle.std.specs.List.Sorted.{IsSorted}
 use Rattle.std.specs.Ordering.{is_lt}
+use Rattle.std.specs.declared.cmp.Ordering.{Ordering}
 use Rattle.std.proofs.lemmas.Bool.{cases_lt}
 use Rattle.std.proofs.lemmas.List.{length-take, get_or-take, get_or_default, get_or_append_left, get_or-append-add, length-append, map-append, take-append-le, take-take, take_all}
 use Rattle.documents.specs.declared.answer.Hit.{Hit}
 use Rattle.documents.specs.InOrder.{with_item, in_order}
 use Rattle.documents.specs.Ranking.{hit_cmp}
 use Rattle.documents.proofs.InOrderLemmas.{hit_cmp_total, hit_ties, in_order-sorted, not_behind, with_two}
-use Rattle.history_points.specs.Kept.{AreFirst, hit_at}
+use Rattle.history_points.specs.Kept.{AreFirst, ranked_hit}
 
 abbrev with_hit : List Hit → Hit → List Hit
 with_hit hits hit = with_item hit_cmp hits hit
@@ -19,26 +20,22 @@ in_order-more [] hit = refl
 in_order-more (h ∷ hits) hit =
     ap (λ (hs : List Hit). with_hit hs h) (in_order-more hits hit) ∙ with_two hit_cmp hit_cmp_total hit_ties (in_order hit_cmp hits) hit h
 
-take_behind : (n : ℕ) (h : Hit) (hits : List Hit) → take n (h ∷ take n hits) ≡ take n (h ∷ hits)
-take_behind zero h hits = refl
-take_behind (suc n) h hits = ap (λ (hs : List Hit). h ∷ hs) (take-take n (suc n) hits (omega arith))
-
--- of the first hits and one more, as many are the first of all and that one
-take-with_hit : (n : ℕ) (hits : List Hit) (hit : Hit) → take n (with_hit (take n hits) hit) ≡ take n (with_hit hits hit)
-take-with_hit zero hits hit = refl
-take-with_hit (suc n) [] hit = refl
-take-with_hit (suc n) (h ∷ hits) hit = by_test (is_lt (hit_cmp h hit)) refl (take-with_hit n hits hit)
+-- of the first items and one more, as many are the first of all and that one
+first-with_item : {X : Type 0} (cmp : X → X → Ordering) (n : ℕ) (items : List X) (item : X) → take n (with_item cmp (take n items) item) ≡ take n (with_item cmp items item)
+first-with_item cmp zero items item = refl
+first-with_item cmp (suc n) [] item = refl
+first-with_item {X} cmp (suc n) (x ∷ items) item = by_test (is_lt (cmp x item)) refl (first-with_item cmp n items item)
   where
-    by_test : (b : Bool) → is_lt (hit_cmp h hit) ≡ b → take n (with_hit (take n hits) hit) ≡ take n (with_hit hits hit)
-        → take (suc n) (with_hit (h ∷ take n hits) hit) ≡ take (suc n) (with_hit (h ∷ hits) hit)
-    by_test true e same = rw e (ap (λ (hs : List Hit). h ∷ hs) same)
-    by_test false e same = rw e (ap (λ (hs : List Hit). hit ∷ hs) (take_behind n h hits))
+    by_test : (b : Bool) → is_lt (cmp x item) ≡ b → take n (with_item cmp (take n items) item) ≡ take n (with_item cmp items item)
+        → take (suc n) (with_item cmp (x ∷ take n items) item) ≡ take (suc n) (with_item cmp (x ∷ items) item)
+    by_test true e same = rw e (ap (λ (xs : List X). x ∷ xs) same)
+    by_test false e same = rw e (ap (λ (xs : List X). item ∷ xs) (take-take n (suc n) (x ∷ items) (omega arith)))
 
 -- the first 20 with one more hit are those of all with it
 first_more : (hits best : List Hit) (hit : Hit) → AreFirst hits best → take 20 (in_order hit_cmp (hits ++ hit ∷ [])) ≡ take 20 (in_order hit_cmp (best ++ hit ∷ []))
 first_more hits best hit are =
     let all = in_order hit_cmp hits in
-    ap (take 20) (in_order-more hits hit) ∙ sym (take-with_hit 20 all hit)
+    ap (take 20) (in_order-more hits hit) ∙ sym (first-with_item hit_cmp 20 all hit)
     ∙ ap (λ (hs : List Hit). take 20 (with_hit hs hit)) (sym are.first ∙ sym (in_order-sorted hit_cmp hit_cmp_total hit_ties best are.sorted))
     ∙ ap (take 20) (sym (in_order-more best hit))
 
@@ -97,5 +94,5 @@ none_first best none = record { first = none; sorted = subst (IsSorted hit_cmp) 
 
 -- the hits of ranks that a walk has passed, with one more
 pub hits_more : {X : Type 0} (pair : X → List ℕ × ℕ) (passed : List X) (next : X)
-    → map hit_at (map pair (passed ++ next ∷ [])) ≡ map hit_at (map pair passed) ++ hit_at (pair next) ∷ []
-hits_more pair passed next = ap (map hit_at) (map-append pair passed (next ∷ [])) ∙ map-append hit_at (map pair passed) (pair next ∷ [])
+    → map ranked_hit (map pair (passed ++ next ∷ [])) ≡ map ranked_hit (map pair passed) ++ ranked_hit (pair next) ∷ []
+hits_more pair passed next = ap (map ranked_hit) (map-append pair passed (next ∷ [])) ∙ map-append ranked_hit (map pair passed) (pair next ∷ [])

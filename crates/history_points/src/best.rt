@@ -6,7 +6,7 @@ ghost use Rattle.std.specs.Ordering.{is_lt};
 ghost use Rattle.documents.specs.declared.answer.Hit.{Hit as HitLem};
 ghost use Rattle.documents.specs.InOrder.{in_order};
 ghost use Rattle.documents.specs.Ranking.{hit_cmp};
-ghost use Rattle.history_points.specs.Kept.{hit_at, AreFirst};
+ghost use Rattle.history_points.specs.Kept.{ranked_hit, AreFirst};
 
 use crate::kept::Ranks;
 use documents::Hit;
@@ -68,7 +68,7 @@ fn add_hit(alloc: Global, best: &mut Vec<Hit>, key: &Key, rank: u32) -> Result<(
 /// The first 20 of the hits that these ranks are.
 pub fn best_of(alloc: Global, ranks: &Ranks) -> Result<Vec<Hit>, NoMemory>
     ensures { IfOk result (λ best.
-        best.items ≡ take 20 (in_order hit_cmp (map hit_at ranks.now.entries))) }
+        best.items ≡ take 20 (in_order hit_cmp (map ranked_hit ranks.now.entries))) }
 {
     let mut best = Vec::new(alloc);
     for (key, rank) in ranks {

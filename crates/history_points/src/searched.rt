@@ -18,18 +18,18 @@ const MOST_KEPT: usize = 64;
 
 /// The texts that searches go over, and the queries that were asked of them, with their hits.
 #[derive(Drop)]
-pub struct Searched {
+pub struct SearchedTexts {
     texts: Texts,
     kept: Vec<KeptQuery>,
 }
 
-impl Searched {
+impl SearchedTexts {
     /// No texts.
     pub fn new(alloc: Global) -> Self
         ensures none { documents_in result.texts ≡ [] }
         ensures kept { IsSearched result }
     {
-        Searched {
+        SearchedTexts {
             texts: Texts::new(alloc),
             kept: Vec::new(alloc),
         }
@@ -43,7 +43,7 @@ impl Searched {
     {
         let texts = texts_of(alloc, docs)?;
         let kept = Vec::new(alloc);
-        Ok(Searched { texts, kept })
+        Ok(SearchedTexts { texts, kept })
     }
 
     /// Changes the documents as an operation says.
