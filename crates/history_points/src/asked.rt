@@ -5,7 +5,7 @@ ghost use Rattle.history_rules.specs.Points.{documents_at};
 ghost use Rattle.known_past.specs.Known.{IsKnown};
 ghost use Rattle.history_points.specs.AskedPoints.{IsAskedPoint};
 
-use crate::places::{Places, note_point, place_of};
+use crate::places::{Places, no_places, note_point, place_of};
 use crate::reached::Reached;
 use history_rules::Entry;
 use known_past::KnownPast;
@@ -25,7 +25,7 @@ impl AskedPoint {
         ensures { IsAskedPoint [] result }
     {
         AskedPoint {
-            places: Places::new(alloc),
+            places: no_places(alloc),
             reached: Reached::new(alloc),
         }
     }

@@ -1,16 +1,24 @@
 //! Where the operations of each version were written.
 
-ghost use Rattle.std.specs.Prelude.{ℕ, ◌≡◌, ◌==◌, ◌∷◌, if◌then◌else◌, reverse, OnOk};
+ghost use Rattle.std.specs.Prelude.{ℕ, ◌≡◌, ◌==◌, ◌∷◌, [], if◌then◌else◌, reverse, OnOk};
 ghost use Rattle.known_past.specs.Known.{IsKnown};
 ghost use Rattle.history_points.specs.AskedPoints.{place_at, ArePlacesOfPoints};
 
 use history_rules::{Entry, Event};
 use known_past::KnownPast;
 use nrt_base::{NoMemory, Version};
+use std::alloc::Global;
 use std::collections::BTreeMap;
 
 /// How many of the first entries wrote the operations of each version, 0 where nothing is noted.
 pub type Places = BTreeMap<u64, usize>;
+
+/// Nothing is noted before any entry.
+pub fn no_places(alloc: Global) -> Places
+    ensures { ArePlacesOfPoints [] result }
+{
+    Places::new(alloc)
+}
 
 /// What is noted for a version.
 pub fn place_of(places: &Places, v: u64) -> usize

@@ -12,7 +12,7 @@ ghost use Rattle.history_points.specs.AskedPoints.{ArePlacesOfPoints, IsReachedB
 ghost use Rattle.history_points.specs.Kept.{IsSearched};
 ghost use Rattle.history_points.specs.RightAnswers.{told_at, IsRequest, IsRightAnswer, AreTold};
 
-use crate::places::{Places, note_point, place_of};
+use crate::places::{Places, no_places, note_point, place_of};
 use crate::reached::Reached;
 use crate::searched::SearchedTexts;
 use documents::{Answer, Hit, Query};
@@ -106,7 +106,10 @@ fn is_right_among(
     }
     match event {
         Event::Answered {
-            v, query, answer, ..
+            v,
+            query,
+            answer,
+            ..
         } if v.0 == version.0 => {
             let right = is_answer(alloc, searched, query, answer)?;
             Ok(Some(right))
@@ -177,7 +180,7 @@ fn requests_of(alloc: Global, entries: &[Entry]) -> Result<Vec<Request>, NoMemor
     ensures { IfOk result (λ requests. All (IsRequest entries.now) requests.items) }
 {
     let mut known = KnownPast::new(alloc);
-    let mut places = Places::new(alloc);
+    let mut places = no_places(alloc);
     let mut requests = Vec::new(alloc);
     for (at, entry) in entries.iter().enumerate() {
         let before = &entries[..at];

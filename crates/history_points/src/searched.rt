@@ -13,7 +13,7 @@ use nrt_base::{Doc, NoMemory};
 use std::alloc::Global;
 use std::mem::replace;
 
-/// How many queries are kept at most.
+/// So many queries are always kept, and as many more as there are documents for each of them, since a query that was let go costs a walk over all documents.
 const MOST_KEPT: usize = 64;
 
 /// The texts that searches go over, and the queries that were asked of them, with their hits.
@@ -74,7 +74,8 @@ impl SearchedTexts {
         ensures texts { self.new.texts ≡ self.old.texts }
         ensures kept { IsSearched self.new }
     {
-        if self.kept.len() < MOST_KEPT {
+        let most = MOST_KEPT.max(self.texts.len() / MOST_KEPT);
+        if self.kept.len() < most {
             return;
         }
         self.kept.clear();
