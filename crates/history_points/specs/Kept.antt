@@ -3,6 +3,7 @@ use Rattle.std.specs.Prelude.{ℕ, ◌≡◌, List, [], ◌∷◌, map, take, Op
 use Rattle.std.specs.List.{All}
 use Rattle.std.specs.List.Sorted.{IsSorted}
 use Rattle.std.specs.Map.{lookup}
+use Rattle.std.specs.declared.cmp.Ordering.TheVariants.{Less}
 use Rattle.std.specs.BTreeMap.{BTreeMap, IsOrdered, get, is_at}
 use Rattle.nrt_base.specs.declared.doc.Doc.{Doc}
 use Rattle.documents.specs.declared.answer.Hit.{Hit}
@@ -47,3 +48,7 @@ pub record IsSearched (searched : SearchedTexts) : Type 0 where
 pub record AreFirst (hits best : List Hit) : Type 0 where
   pub first : best ≡ take 20 (in_order hit_cmp hits)
   pub sorted : IsSorted hit_cmp best
+
+-- the keys of these hits are below a key
+abbrev pub AreKeysBelow : List ℕ → List Hit → Type 0
+AreKeysBelow key hits = All (λ h. key_cmp h.key key ≡ Less) hits
