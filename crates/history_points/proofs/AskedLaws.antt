@@ -1,9 +1,8 @@
 -- Where the operations of versions were written, and what is kept of them.
-use Rattle.std.proofs.Common.{◌≡◌, ◌==◌, ◌≤◌, ◌<◌, ◌+◌, ◌^◌, ◌∙◌, ℕ, List, [], ◌∷◌, ◌++◌, length, take, drop, reverse, nat_le, if◌then◌else◌, Bool, true, false, ◌&&◌, refl, sym, ap, subst, arith, take-append-drop, length-take-le}
+use Rattle.std.proofs.Common.{◌≡◌, ◌==◌, ◌≤◌, ◌+◌, ◌∙◌, ℕ, List, [], ◌∷◌, ◌++◌, length, take, drop, reverse, nat_le, if◌then◌else◌, Bool, true, false, ◌&&◌, refl, sym, ap, subst, arith, take-append-drop, length-take-le}
 use Rattle.std.specs.BTreeMap.{BTreeMap}
 use Rattle.std.proofs.lemmas.Bool.{le-leb}
 use Rattle.std.proofs.lemmas.Bool.Decides.{nat_tests}
-use Rattle.std.specs.List.{list_any}
 use Rattle.std.proofs.lemmas.List.{length-append, length-map, length-reverse, reverse-append}
 use Rattle.nrt_base.specs.declared.doc.Doc.{Doc}
 use Rattle.nrt_base.specs.declared.numbers.At.{At}
@@ -11,18 +10,14 @@ use Rattle.nrt_base.specs.declared.numbers.Gen.{Gen}
 use Rattle.nrt_base.specs.declared.numbers.NodeNo.{NodeNo}
 use Rattle.nrt_base.specs.declared.numbers.Version.{Version}
 use Rattle.documents.specs.declared.operation.Op.{Op}
-use Rattle.documents.specs.declared.answer.Answer.{Answer}
-use Rattle.documents.specs.declared.query.Query.{Query}
 use Rattle.documents.specs.Documents.{IsAscending, document_of, documents_in, documents_after, after_op}
-use Rattle.documents.specs.Ranking.{is_too_high, scan_of}
 use Rattle.documents.proofs.DocumentLemmas.{documents_after_last, documents_ascend}
 use Rattle.history_rules.specs.declared.entry.Entry.{Entry}
 use Rattle.history_rules.specs.declared.entry.Event.{Event}
 use Rattle.history_rules.specs.declared.entry.Event.TheVariants.{Accepted, Published, Promoted}
-use Rattle.history_rules.specs.Nodes.{Past, version_of, accepted_count}
+use Rattle.history_rules.specs.Nodes.{Past, version_of}
 use Rattle.history_rules.specs.Lines.{same_at, is_start, before_start}
 use Rattle.history_rules.specs.Points.{operations_written, operations_at_start, operations_at, documents_at}
-use Rattle.history_rules.proofs.PointLemmas.{length-documents_at-le}
 use Rattle.history_facts.proofs.WrittenLemmas.{started}
 use Rattle.known_past.proofs.Given.{start_short}
 use Rattle.history_points.specs.declared.asked.AskedPoint.{AskedPoint}

@@ -1,6 +1,6 @@
 -- Which answers of a history are right.
-use Rattle.std.proofs.Common.{◌≡◌, ◌==◌, ◌≤◌, ◌<◌, ◌∙◌, ◌^◌, ℕ, List, [], ◌∷◌, ◌++◌, take, length, reverse, get_or, if◌then◌else◌, Bool, true, false, refl, sym, ap, subst, arith, take-append-drop, length-take-le}
-use Rattle.std.specs.Prelude.{◌↔◌, Option, Some, None, IsTrue}
+use Rattle.std.proofs.Common.{◌≡◌, ◌==◌, ◌≤◌, ◌<◌, ◌∙◌, ◌^◌, ℕ, List, [], ◌∷◌, ◌++◌, take, length, reverse, get_or, if◌then◌else◌, Bool, true, false, refl, sym, ap, subst, arith, length-take-le}
+use Rattle.std.specs.Prelude.{◌↔◌, Option, Some, None, IsTrue, IfSome}
 use Rattle.std.specs.BTreeMap.{BTreeMap}
 use Rattle.std.specs.List.{All}
 use Rattle.std.proofs.lemmas.Bool.{eqb-true}
@@ -9,17 +9,14 @@ use Rattle.std.proofs.lemmas.List.Elements.{All-push}
 use Rattle.nrt_base.specs.declared.doc.Doc.{Doc}
 use Rattle.documents.specs.declared.answer.Answer.{Answer}
 use Rattle.documents.specs.declared.query.Query.{Query}
-use Rattle.documents.specs.Documents.{document_of, documents_in, documents_after}
+use Rattle.documents.specs.Documents.{document_of, documents_in}
 use Rattle.documents.specs.Ranking.{scan_of}
 use Rattle.history_rules.specs.declared.entry.Entry.{Entry}
 use Rattle.history_rules.specs.declared.entry.Event.{Event}
-use Rattle.history_rules.specs.Nodes.{Past}
 use Rattle.history_rules.specs.Points.{operations_at, operations_written}
-use Rattle.history_points.specs.declared.reached.Reached.{Reached}
 use Rattle.history_points.specs.declared.right.Request.{Request}
 use Rattle.history_points.specs.declared.searched.SearchedTexts.{SearchedTexts}
-use Rattle.history_points.specs.AskedPoints.{oldest, place_at, ArePlacesOfPoints, IsReachedBy}
-use Rattle.history_points.specs.Kept.{IsSearched}
+use Rattle.history_points.specs.AskedPoints.{oldest, place_at, ArePlacesOfPoints}
 use Rattle.history_points.specs.RightAnswers.{told_at, IsRequest, IsRightAnswer, AreTold}
 use Rattle.history_points.proofs.AskedLaws.{oldest-reverse}
 
@@ -79,14 +76,6 @@ told_next entries old new at right event e are within is same told noted = λ i 
     by_test i b d here low item false test =
         are i b d (sym (noted i ∙ ap (λ (t : Bool). if t then Some right else told_at old i) test) ∙ here) low item
 
--- the texts stay where a search was answered among them
-pub reached_still : (past : Past) (old new : Reached) → IsReachedBy past old → new.count ≡ old.count → new.searched.texts ≡ old.searched.texts → IsSearched new.searched → IsReachedBy past new
-reached_still past old new is count texts kept = record {
-  low = let low = is.low in omega (arith, low, count);
-  kept = kept;
-  texts = ap documents_in texts ∙ is.texts ∙ ap (λ (k : ℕ). documents_after (operations_written (oldest k past))) (sym count);
-}
-
 -- there are no more texts than operations were accepted
 pub few_texts : (searched : SearchedTexts) (docs : List Doc) (accepted : ℕ) → documents_in searched.texts ≡ docs → length docs ≤ accepted → accepted < 2 ^ 32 → length searched.texts.entries < 2 ^ 32
 few_texts searched docs accepted same few low =
@@ -97,3 +86,9 @@ few_texts searched docs accepted same few low =
 -- the scan of the texts is that of the documents
 pub right_there : (right : Bool) (texts docs : List Doc) (query : Query) (answer : Answer) → texts ≡ docs → (IsTrue right ↔ (answer ≡ scan_of texts query)) → (IsTrue right ↔ (answer ≡ scan_of docs query))
 right_there right texts docs query answer same is = subst (λ (ds : List Doc). IsTrue right ↔ (answer ≡ scan_of ds query)) same is
+
+-- what is noted of an answer is whether it is right
+pub told_there : (entries : List Entry) (told : BTreeMap ℕ Bool) (at : ℕ) (r : Option Bool) → AreTold entries told → at < length entries → r ≡ told_at told at → (e : Entry) → e ≡ get_or entries at e
+    → IfSome r (λ right. IsTrue right ↔ IsRightAnswer (reverse (take at entries)) e.event)
+told_there entries told at (Some right) are within is = λ e item. are at right e (sym is) within item
+told_there entries told at None are within is = λ e item. tt

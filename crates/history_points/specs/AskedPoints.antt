@@ -4,7 +4,7 @@ use Rattle.std.specs.Ordering.{nat_cmp}
 use Rattle.std.specs.BTreeMap.{BTreeMap, get}
 use Rattle.documents.specs.Documents.{documents_in, documents_after}
 use Rattle.history_rules.specs.Nodes.{Past}
-use Rattle.history_rules.specs.Points.{operations_written, operations_at, documents_at}
+use Rattle.history_rules.specs.Points.{operations_written, operations_at}
 use Rattle.history_points.specs.declared.asked.AskedPoint.{AskedPoint}
 use Rattle.history_points.specs.declared.reached.Reached.{Reached}
 use Rattle.history_points.specs.Kept.{IsSearched}

@@ -126,6 +126,15 @@ fn set_told(told: &mut Told, at: usize, right: bool) -> Result<(), NoMemory>
     Ok(())
 }
 
+fn noted(told: &Told, at: usize) -> Option<bool>
+    ensures { result ≡ told_at told.now at }
+{
+    match told.get(&at) {
+        Some(right) => Some(*right),
+        None => None,
+    }
+}
+
 /// Notes whether the answer of a search is right.
 fn note_answer(
     alloc: Global,
@@ -221,13 +230,13 @@ impl RightAnswers {
     }
 
     /// Whether the answer behind so many entries is right, where it is noted.
-    pub fn told(&self, at: usize) -> Option<bool>
-        ensures { result ≡ told_at self.now.told at }
+    pub fn told(&self, entries: &[Entry], at: usize) -> Option<bool>
+        requires told { AreTold entries.now self.now.told }
+        requires within { at < length entries.now }
+        ensures { (e : EntryLem) → e ≡ get_or entries.now at e → IfSome result (λ right.
+            IsTrue right ↔ IsRightAnswer (reverse (take at entries.now)) e.event) }
     {
-        match self.told.get(&at) {
-            Some(right) => Some(*right),
-            None => None,
-        }
+        noted(&self.told, at)
     }
 }
 

@@ -1,5 +1,4 @@
-use Rattle.std.proofs.Common.{reverse, sym, subst, ◌∙◌}
-use Rattle.documents.specs.Documents.{IsAscending}
+use Rattle.std.proofs.Common.{reverse, ◌∙◌}
 use Rattle.history_rules.specs.Nodes.{accepted_count}
 use Rattle.history_points.proofs.AskedLaws.{point_ascends}
 use Rattle.history_points.proofs.RightLaws.{few_texts, right_there}

@@ -1,7 +1,7 @@
 use Rattle.std.proofs.Common.{reverse, take, ap, sym}
 use Rattle.std.proofs.lemmas.Result.{on_ok_weaker}
 use Rattle.history_rules.specs.declared.entry.Entry.{Entry}
-use Rattle.history_points.proofs.RightLaws.{request_point, told_next, reached_still}
+use Rattle.history_points.proofs.RightLaws.{request_point, told_next}
 use Rattle.history_points.proofs.right.note_answer.Goals as goal
 
 pub go_to-requires-clause-point : goal.go_to-requires-clause-point
