@@ -6,7 +6,7 @@ use Rattle.known_past.specs.Known.{IsKnown}
 use Rattle.point_history.proofs.legality.legal.Goals as goal
 
 pub keeps-requires-clause-told : goal.keeps-requires-clause-told
-keeps-requires-clause-told c = c.told.ensures c.index-entries-at.result c.index-entries-at.is
+keeps-requires-clause-told c = c.told-told.ensures c.index-entries-at.result c.index-entries-at.is
 
 pub loop-at-preserved : goal.loop-at-preserved
 loop-at-preserved c =
