@@ -122,9 +122,9 @@ module _ {D : Type 0} (cells : D → Cells) where
 -- ---- in the terms of a call of a job that runs
 
 module _ {D : Type 0} {cells : D → Cells} {r : Run} {b0 b1 : Sheet} {old : List (Option (NodePlace D))} {board : Board} {row : JobRow} {p : NodeNo} (k : JobCall cells r b0 b1 old board row p)
-    (now : Run) (carries : List Bool) (cut later : Bool) (plans next : List Plans) (new : List (Option (NodePlace D)))
-    (was : record { calls_left = calls_in carries old; cut = cut; sizes = sizes_in old; jobs = jobs_in old; copies = copies_in old; tasks = board; plans = plans } ≡ r.rest)
-    (is : record { calls_left = calls_in carries new; cut = later; sizes = sizes_in new; jobs = jobs_in new; copies = copies_in new; tasks = board; plans = next } ≡ now.rest) (same : later ≡ cut) where
+    (now : Run) (carries : List Bool) (cut later : Bool) (plans next : List Plans) (new : List (Option (NodePlace D))) {named names : List (List Name)}
+    (was : record { calls_left = calls_in carries old; cut = cut; sizes = sizes_in old; jobs = jobs_in old; copies = copies_in old; tasks = board; plans = plans; names = named } ≡ r.rest)
+    (is : record { calls_left = calls_in carries new; cut = later; sizes = sizes_in new; jobs = jobs_in new; copies = copies_in new; tasks = board; plans = next; names = names } ≡ now.rest) (same : later ≡ cut) where
   abbrev n : ℕ
   n = row.job.node.0
 
@@ -157,7 +157,7 @@ module _ {D : Type 0} {cells : D → Cells} {r : Run} {b0 b1 : Sheet} {old : Lis
 
 pub none_moved : (n : ℕ) (old new : Run) → KeepsRest old new → KeepsButFiles n old new
 none_moved n old new kept = record {
-  rest = kept ∙ ap (λ (x : Rest). record old.rest { jobs = x.jobs; plans = new.rest.plans }) (sym kept);
+  rest = kept ∙ ap (λ (x : Rest). record old.rest { jobs = x.jobs; plans = new.rest.plans; names = new.rest.names }) (sym kept);
   files = λ m apart. files_same m old new (ap (λ (x : Rest). x.jobs) kept);
 }
 

@@ -14,22 +14,22 @@ use Rattle.cluster_state.specs.declared.turn.Turn.TheVariants.{Work, Done, Busy}
 use Rattle.cluster_merges.specs.declared.precopies.CopyTurn.{CopyTurn}
 use Rattle.cluster_merges.specs.declared.precopies.CopyTurn.TheVariants.{Waits, Hands, Ends, Fails}
 
--- what callers are told beside the log is as before, but for the faults of disks, and for the tasks of merges
+-- what callers are told beside the log is as before, but for the faults of disks and the names of their files, and for the tasks of merges
 pub record KeepsButTasks (old new : Run) : Type 0 where
-  pub rest : new.rest ≡ record old.rest { tasks = new.rest.tasks; plans = new.rest.plans }
+  pub rest : new.rest ≡ record old.rest { tasks = new.rest.tasks; plans = new.rest.plans; names = new.rest.names }
 
 -- the same, but for the sizes of the primary's segments too: one that is merged is not to be chosen
 pub record KeepsButSizes (old new : Run) : Type 0 where
-  pub rest : new.rest ≡ record old.rest { sizes = new.rest.sizes; tasks = new.rest.tasks; plans = new.rest.plans }
+  pub rest : new.rest ≡ record old.rest { sizes = new.rest.sizes; tasks = new.rest.tasks; plans = new.rest.plans; names = new.rest.names }
 
 -- the same, but for whether a merge was cut over, too
 pub record KeepsButCut (old new : Run) : Type 0 where
-  pub rest : new.rest ≡ record old.rest { cut = new.rest.cut; sizes = new.rest.sizes; tasks = new.rest.tasks; plans = new.rest.plans }
+  pub rest : new.rest ≡ record old.rest { cut = new.rest.cut; sizes = new.rest.sizes; tasks = new.rest.tasks; plans = new.rest.plans; names = new.rest.names }
 
 -- what callers are told beside the log is as before, but for the faults of disks, for the tasks of merges, and for the copies of merged segments
 -- at this node
 pub record KeepsButCopies (n : ℕ) (old new : Run) : Type 0 where
-  pub rest : new.rest ≡ record old.rest { copies = new.rest.copies; tasks = new.rest.tasks; plans = new.rest.plans }
+  pub rest : new.rest ≡ record old.rest { copies = new.rest.copies; tasks = new.rest.tasks; plans = new.rest.plans; names = new.rest.names }
   pub copies : TellsSameOfOthers merged_at n old new
 
 -- by what came of the next step of a copy to a node: all is as before where it waits, or is handed a file

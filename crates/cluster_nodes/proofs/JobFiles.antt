@@ -7,7 +7,7 @@ use Rattle.disk_model.proofs.CellLemmas.{same_true}
 use Rattle.file_deleter.specs.Holdings.{times}
 use Rattle.file_deleter.proofs.NameLemmas.{same_self, times-cons, among_times}
 use Rattle.copy_state.specs.declared.meta.FileMetaData.{FileMetaData}
-use Rattle.copy_state.specs.States.{meta_names, meta_in}
+use Rattle.copy_state.specs.States.{meta_in}
 use Rattle.copy_job.specs.Jobs.{Job, IsJob}
 use Rattle.replica_node.specs.declared.job.PointJob.{PointJob}
 use Rattle.replica_node.specs.Jobs.{running_point}

@@ -1,5 +1,5 @@
 -- The job of a point that runs at a replica, for calls that name it by its number, and what is left where it stops.
-use Rattle.std.proofs.Common.{◌≡◌, ◌∙◌, ℕ, Bool, true, false, Some, None, Option, is_some, true≢false, refl, ap, sym, subst}
+use Rattle.std.proofs.Common.{◌≡◌, ◌∙◌, ℕ, Bool, true, false, Some, None, Option, is_some, refl, ap, sym, subst}
 use Rattle.std.specs.Prelude.{◌==◌, not, IfSome, IsSome, if◌then◌else◌}
 use Rattle.std.specs.Option.{option_map}
 use Rattle.std.proofs.lemmas.Bool.{and_from, eq-eqb}
@@ -9,7 +9,6 @@ use Rattle.searcher_switch.specs.Appearing.{NoneAppears}
 use Rattle.copy_state.specs.declared.state.CopyState.{CopyState}
 use Rattle.copy_job.specs.Jobs.{Job, with_part}
 use Rattle.index_primary.specs.declared.parts.PrimaryParts.{PrimaryParts}
-use Rattle.index_primary.specs.declared.states.Out.{Out}
 use Rattle.index_primary.specs.States.{out_of, is_out, states_without}
 use Rattle.replica_node.specs.declared.job.PointJob.{PointJob}
 use Rattle.replica_node.specs.declared.parts.ReplicaParts.{ReplicaParts}

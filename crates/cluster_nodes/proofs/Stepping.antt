@@ -26,8 +26,7 @@ use Rattle.copy_job.specs.Jobs.{Job, reads_under, with_part}
 use Rattle.copy_job.proofs.Naming.{times-own_insert}
 use Rattle.index_primary.specs.declared.parts.PrimaryParts.{PrimaryParts}
 use Rattle.index_primary.specs.declared.states.Out.{Out}
-use Rattle.index_primary.specs.Primary.{IsPrimary, KeepsHeldBytes, loose_of, IsUnwritten}
-use Rattle.index_primary.specs.Held.{IsUndrawn}
+use Rattle.index_primary.specs.Primary.{IsPrimary, KeepsHeldBytes, IsUnwritten}
 use Rattle.index_primary.specs.Calls.{HoldsNoNew}
 use Rattle.index_primary.specs.States.{out_of, states_without, is_out, same_out, IsStateOf}
 use Rattle.cluster_nodes.specs.Outs.{want_of}

@@ -1,6 +1,6 @@
 -- What a disk that fails makes of the primary, and of a job, which is stopped.
-use Rattle.std.proofs.Common.{◌≡◌, ◌∙◌, ◌<◌, ◌^◌, ◌++◌, ◌∷◌, [], inl, inr, ℕ, Bool, true, false, List, Some, None, Option, Result, Err, refl, ap, sym, subst, ⊎_elim, arith}
-use Rattle.std.specs.Prelude.{IfSome, IsSome, IsSomeAnd, if◌then◌else◌}
+use Rattle.std.proofs.Common.{◌≡◌, ◌∙◌, ◌<◌, ◌^◌, inl, inr, ℕ, true, List, Some, None, Option, Result, Err, ap, sym, subst, ⊎_elim, arith}
+use Rattle.std.specs.Prelude.{IfSome, IsSomeAnd}
 use Rattle.std.specs.Option.{option_map}
 use Rattle.disk_model.specs.Disk.{Name, Content, Cells}
 use Rattle.file_deleter.specs.Holdings.{times, IsThere}
@@ -24,8 +24,7 @@ use Rattle.replica_node.specs.Jobs.{running_point, stopped_job}
 use Rattle.replica_node.specs.Replica.{IsWholeReplica, AreStanding}
 use Rattle.replica_node.specs.Sources.{IsSourced, KeepsSource, IsWantedName, IsStillCopying}
 use Rattle.replica_node.proofs.Lent.{RunsHere}
-use Rattle.cluster_nodes.specs.Outs.{want_of}
-use Rattle.cluster_nodes.specs.JobChanges.{AltersStates, IsLeftName, IsPartAt, StopsAt, StopsFor}
+use Rattle.cluster_nodes.specs.JobChanges.{AltersStates, IsLeftName, StopsAt, StopsFor}
 use Rattle.cluster_nodes.specs.Ends.{StopsJob}
 use Rattle.cluster_nodes.proofs.Stepping.{alters_by, alters_then, none_by}
 

@@ -1,26 +1,37 @@
 -- Nodes that are taken out of their places and put back.
-use Rattle.std.proofs.Common.{◌≡◌, ◌≢◌, ◌==◌, ℕ, Bool, true, false, List, Some, None, Option, Vec, Global, refl, ap, ◌∙◌, sym, subst, if◌then◌else◌, length}
+use Rattle.std.proofs.Common.{◌≡◌, ◌≢◌, ◌==◌, ℕ, ◌≤◌, Bool, true, false, List, Some, None, Option, is_some, Vec, Global, refl, ap, ◌∙◌, sym, subst, if◌then◌else◌, length}
 use Rattle.std.specs.Prelude.{IfSome, IfOk, OnOk}
-use Rattle.std.proofs.lemmas.Bool.{eqb-true}
+use Rattle.std.proofs.lemmas.Bool.{eqb-true, eq-eqb}
+use Rattle.std.proofs.lemmas.Option.{same_Some}
 use Rattle.std.proofs.Common.{Result, Ok, Err}
 use Rattle.std.specs.declared.alloc.AllocError.{AllocError}
 use Rattle.copy_job.specs.declared.copying.Part.{Part}
 use Rattle.index_primary.specs.Primary.{IsPrimary}
 use Rattle.index_primary.specs.Calls.{HoldsNoNew}
+use Rattle.index_primary.specs.States.{is_out}
 use Rattle.cluster_nodes.proofs.Stopping.{reads_alters}
 use Rattle.disk_model.specs.Disk.{Name, Cells}
 use Rattle.index_primary.specs.declared.parts.PrimaryParts.{PrimaryParts}
 use Rattle.replica_node.specs.declared.parts.ReplicaParts.{ReplicaParts}
 use Rattle.replica_node.specs.Jobs.{running_point}
 use Rattle.cluster_nodes.specs.declared.held.HeldTicket.{HeldTicket}
-use Rattle.cluster_nodes.specs.declared.nodes.Node.TheVariants.{Primary, Replica}
+use Rattle.cluster_nodes.specs.declared.nodes.Node.TheVariants.{Primary, Replica, Down}
 use Rattle.cluster_nodes.specs.declared.nodes.NodePlace.{NodePlace}
+use Rattle.cluster_nodes.specs.Outs.{want_of}
 use Rattle.cluster_nodes.specs.Places.{place_of, IsSlot, HasPrimary}
-use Rattle.cluster_nodes.specs.JobChanges.{HasReplica, AltersStates, BeginsAt, BeginsNot, FinishesAt, ReadsFor, StopsFor, TakesFor}
-use Rattle.cluster_nodes.specs.JobPlaces.{StandThere, HoldsOfBoth, AreBoth, MovesOne, MovesBoth, AltersIn, StopsIn, BeginsIn, FinishesIn, ReadsIn, TakesIn}
+use Rattle.cluster_nodes.specs.JobChanges.{HasReplica, AltersStates, BeginsAt, BeginsNot, FinishesAt, ReadsFor, StopsFor, TakesPart}
+use Rattle.cluster_nodes.specs.JobPlaces.{StandThere, HoldsOfBoth, AreBoth, MovesOne, MovesBoth, MayStop, CanStop, AltersIn, StopsIn, BeginsIn, FinishesIn, ReadsIn, TakesIn}
 use Rattle.cluster_nodes.specs.declared.went.Went.{Went}
 use Rattle.cluster_nodes.specs.declared.went.Went.TheVariants.{Done, Failed}
 use Rattle.cluster_nodes.specs.Went.{ByWent}
+
+-- two numbers differ both ways
+apart_turned : (p n : ℕ) → (p == n) ≡ false → (n == p) ≡ false
+apart_turned p n apart = tests (n == p) refl
+  where
+    tests : (b : Bool) → (n == p) ≡ b → (n == p) ≡ false
+    tests true here = ap (λ (k : ℕ). k == p) (eqb-true n p here) ∙ (ap (λ (k : ℕ). p == k) (sym (eqb-true n p here)) ∙ apart)
+    tests false away = away
 
 module _ {D : Type 0} where
   pub primary_some : (o : Option (NodePlace D)) → HasPrimary o → o ≢ None
@@ -149,16 +160,86 @@ module _ {D : Type 0} where
     read_in name (Ok Failed) stops = stopped_at None stops
     read_in name (Err fault) none = tt
 
-    pub taken_in : (part : Part) (result : Result (Went Unit) AllocError) → IfOk result (ByWent (λ done. TakesFor cells part q q' r r') (StopsFor cells (Some part) q q' r r'))
-        → IfOk result (ByWent (λ done. TakesIn cells n part old new) (StopsIn cells (Some part) p n old new))
-    taken_in part (Ok (Done x)) takes = record {
-      at = both_there.replica;
-      replica = r';
-      moves = one_replica old new p n (record { node = Primary q'; held = hq }) (record { node = Replica r'; held = hr }) both_moved (there_q ∙ ap (λ (z : PrimaryParts D). Some (record { node = Primary z; held = hq })) (sym takes.primary));
-      takes = takes.takes;
-    }
-    taken_in part (Ok Failed) stops = stopped_at (Some part) stops
-    taken_in part (Err fault) none = tt
+  -- ---- a replica was taken out, changed and put back
+
+  abbrev parts_of : ReplicaParts D → NodePlace D → ReplicaParts D
+  parts_of r place = elim place.node [ Primary q ↦ r | Replica s ↦ s | Down d ↦ r ]
+
+  -- one replica alone stands in a place
+  same_there : (places : List (Option (NodePlace D))) (n : ℕ) (r s : ReplicaParts D) (h k : Vec HeldTicket Global) → place_of places n ≡ Some (record { node = Replica r; held = h }) → place_of places n ≡ Some (record { node = Replica s; held = k })
+      → (s ≡ r) × (k ≡ h)
+  same_there places n r s h k first second =
+      let x : NodePlace D = record { node = Replica r; held = h } in
+      let y : NodePlace D = record { node = Replica s; held = k } in
+      let same : y ≡ x = same_Some y x (sym second ∙ first) in
+      (ap (parts_of r) same, ap (λ (z : NodePlace D). z.held) same)
+
+  module _ (cells : D → Cells) (old mid back : List (Option (NodePlace D))) (n : ℕ) (r s : ReplicaParts D) (held : Vec HeldTicket Global) (slot : IsSlot old n)
+      (cm : length mid ≡ length old) (tm : (m : ℕ) → place_of mid m ≡ (if n == m then None else place_of old m)) (cn : length back ≡ length mid)
+      (tn : (m : ℕ) → place_of back m ≡ (if n == m then Some (record { node = Replica s; held = held }) else place_of mid m)) (there : place_of old n ≡ Some (record { node = Replica r; held = held })) where
+    abbrev put_back : MovesOne n (record { node = Replica s; held = held }) old back
+    put_back = moved_one old mid back n (record { node = Replica s; held = held }) cm tm cn tn
+
+    -- it took a part, or did not lack it
+    pub took_there : (part : Part) → TakesPart cells part r s → TakesIn cells n part old back
+    took_there part takes = record { at = record { slot = slot; parts = r; held = held; there = there }; replica = s; moves = put_back; takes = takes }
+
+    there_now : place_of back n ≡ Some (record { node = Replica s; held = held })
+    there_now = put_back.there n ∙ ap (λ (b : Bool). if b then Some (record { node = Replica s; held = held }) else place_of old n) (eq-eqb n n refl)
+
+    module _ (p : ℕ) (stand : StandThere p n old) where
+      primary_still : place_of back p ≡ place_of old p
+      primary_still = put_back.there p ∙ ap (λ (b : Bool). if b then Some (record { node = Replica s; held = held }) else place_of old p) (apart_turned p n stand.apart)
+
+      -- its job can be stopped then
+      pub may_stop_back : s ≡ record r { dir = s.dir; files = s.files } → HoldsOfBoth MayStop p n old → CanStop p n back
+      may_stop_back left may = record {
+        stand = record {
+          slot_primary = (stand.slot_primary.0, subst (λ (k : ℕ). p ≤ k) (sym put_back.count) stand.slot_primary.1);
+          slot_replica = (slot.0, subst (λ (k : ℕ). n ≤ k) (sym put_back.count) slot.1);
+          apart = stand.apart;
+          primary = subst HasPrimary (sym primary_still) stand.primary;
+          replica = subst HasReplica (sym there_now) tt;
+        };
+        may = λ q t hq ht there_q there_t.
+            let was : MayStop q r = may q r hq held (sym primary_still ∙ there_q) there in
+            subst (MayStop q) (sym (same_there back n s t held ht there_now there_t).0) (record {
+              some = ap (λ (x : ReplicaParts D). is_some (running_point x.job)) left ∙ was.some;
+              out = subst (λ (x : ReplicaParts D). IfSome (want_of x.job) (λ o. is_out o q.states ≡ true)) (sym left) was.out;
+            });
+      }
+
+      -- and it was, as a part was not written
+      pub stopped_there : (part : Part) (new : List (Option (NodePlace D))) → ((q q' : PrimaryParts D) (t : ReplicaParts D) → StopsFor cells None q q' s t → StopsFor cells (Some part) q q' r t) → StopsIn cells None p n back new → StopsIn cells (Some part) p n old new
+      stopped_there part new writing b = record {
+        both = record {
+          primary = record { slot = stand.slot_primary; parts = b.both.primary.parts; held = b.both.primary.held; there = sym primary_still ∙ b.both.primary.there };
+          replica = record { slot = slot; parts = r; held = held; there = there };
+          apart = stand.apart;
+        };
+        primary = b.primary;
+        replica = b.replica;
+        moves = record { count = b.moves.count ∙ put_back.count; there = λ m. b.moves.there m ∙ still m (n == m) refl };
+        stops = writing b.both.primary.parts b.primary b.replica (subst (λ (z : ReplicaParts D). StopsFor cells None b.both.primary.parts b.primary z b.replica) same.0 b.stops);
+      }
+        where
+          same : (b.both.replica.parts ≡ s) × (b.both.replica.held ≡ held)
+          same = same_there back n s b.both.replica.parts held b.both.replica.held there_now b.both.replica.there
+
+          x : NodePlace D
+          x = record { node = Primary b.primary; held = b.both.primary.held }
+
+          y : Vec HeldTicket Global → NodePlace D
+          y h = record { node = Replica b.replica; held = h }
+
+          still : (m : ℕ) (t : Bool) → (n == m) ≡ t → (if n == m then Some (y b.both.replica.held) else if p == m then Some x else place_of back m) ≡ (if n == m then Some (y held) else if p == m then Some x else place_of old m)
+          still m true here =
+              ap (λ (c : Bool). if c then Some (y b.both.replica.held) else if p == m then Some x else place_of back m) here
+              ∙ (ap (λ (h : Vec HeldTicket Global). Some (y h)) same.1 ∙ sym (ap (λ (c : Bool). if c then Some (y held) else if p == m then Some x else place_of old m) here))
+          still m false away =
+              ap (λ (c : Bool). if c then Some (y b.both.replica.held) else if p == m then Some x else place_of back m) away
+              ∙ (ap (λ (o : Option (NodePlace D)). if p == m then Some x else o) (put_back.there m ∙ ap (λ (c : Bool). if c then Some (record { node = Replica s; held = held }) else place_of old m) away)
+              ∙ sym (ap (λ (c : Bool). if c then Some (y held) else if p == m then Some x else place_of old m) away))
 
   pub read_at : (cells : D → Cells) (bytes : List ℕ) (name : Name) (old mid new : List (Option (NodePlace D))) (p : ℕ) (q q' : PrimaryParts D) (held : Vec HeldTicket Global) → IsSlot old p
       → length mid ≡ length old → ((m : ℕ) → place_of mid m ≡ (if p == m then None else place_of old m)) → length new ≡ length mid → ((m : ℕ) → place_of new m ≡ (if p == m then Some (record { node = Primary q'; held = held }) else place_of mid m))

@@ -189,8 +189,3 @@ module _ {D : Type 0} where
     pub states : q.states ≡ p.states
     pub there : (cells p.dir name).now ≡ Some bytes
     pub replica : s ≡ r
-
-  -- a part was taken, and the primary is as before
-  pub record TakesFor (cells : D → Cells) (part : Part) (p q : PrimaryParts D) (r s : ReplicaParts D) : Type 0 where
-    pub takes : TakesPart cells part r s
-    pub primary : q ≡ p

@@ -1,5 +1,5 @@
 -- Jobs in the terms of places: what stands at the primary's and at a replica's, and what a job's beginning, steps and end make of them.
-use Rattle.std.specs.Prelude.{ℕ, ◌≡◌, ◌≤◌, ◌<◌, ◌+◌, ◌^◌, ◌==◌, false, true, List, [], Option, Some, IsSome, IfSome, length, if◌then◌else◌, Vec}
+use Rattle.std.specs.Prelude.{ℕ, ◌≡◌, ◌≤◌, ◌<◌, ◌==◌, false, true, List, [], Option, Some, IsSome, IfSome, length, if◌then◌else◌, Vec}
 use Rattle.std.specs.Global.{Global}
 use Rattle.disk_model.specs.Disk.{Name, Cells, reads_of}
 use Rattle.file_deleter.specs.Holdings.{times}

@@ -3,24 +3,20 @@
 ghost use Rattle.std.specs.Prelude.{◌≡◌, ◌≤◌, ◌<◌, ◌+◌, ◌^◌, None, Some, true, IsSome, IfSome, IfOk, OnOk, []};
 ghost use Rattle.disk_model.specs.Disk.{reads_of};
 ghost use Rattle.file_deleter.specs.Holdings.{times};
-ghost use Rattle.copy_state.specs.declared.meta.FileMetaData.{FileMetaData};
-ghost use Rattle.copy_state.specs.States.{meta_in};
-ghost use Rattle.copy_state.specs.Meta.{IsMetaOf};
 ghost use Rattle.copy_job.specs.Jobs.{reads_under};
 ghost use Rattle.searcher_switch.specs.Standing.{StandsForSome};
 ghost use Rattle.std.specs.Option.{option_map};
 ghost use Rattle.index_primary.specs.States.{is_out, out_of, state_names};
 ghost use Rattle.replica_node.specs.Jobs.{running_point};
 ghost use Rattle.cluster_nodes.specs.Outs.{want_of};
-ghost use Rattle.cluster_nodes.specs.JobChanges.{BeginsAt, BeginsNot, FinishesAt, ReadsFor, StopsFor, TakesFor};
+ghost use Rattle.cluster_nodes.specs.JobChanges.{BeginsAt, BeginsNot, FinishesAt, ReadsFor, StopsFor};
 ghost use Rattle.cluster_nodes.specs.Ends.{StopsJob, TakesBack};
 ghost use Rattle.cluster_nodes.specs.Went.{ByWent};
 
 use crate::failed::{is_dir_failed, is_failed};
-use crate::states::{lacks, share_state, state_of};
+use crate::states::{share_state, state_of};
 use crate::went::Went;
 use bytes::Bytes;
-use copy_job::Part;
 use copy_state::CopyState;
 use disk_model::Dir;
 use file_names::FileName;
@@ -158,40 +154,6 @@ pub fn read_for<D: Dir + Drop>(
         Ok(bytes) => Ok(Went::Done(bytes)),
         Err(fault) => {
             is_failed(fault)?;
-            stop_for(alloc, primary, replica)?;
-            Ok(Went::Failed)
-        }
-    }
-}
-
-/// Puts a part into the job of a replica, which runs, where the job lacks it still. Where the replica's disk fails the job is stopped.
-pub fn take_part<D: Dir + Drop>(
-    alloc: Global,
-    primary: &mut Primary<D>,
-    replica: &mut Replica<D>,
-    part: Part,
-) -> Result<Went<()>, NoMemory>
-    requires some { IsSome (running_point replica.old.job) }
-    requires out { IfSome (want_of replica.old.job) (λ s. is_out s primary.old.states ≡ true) }
-    requires meta { IsMetaOf part.bytes part.meta }
-    requires wanted { IfSome (running_point replica.old.job) (λ j. (meta : FileMetaData)
-        → meta_in j.copy.want.files part.name ≡ Some meta → meta ≡ part.meta) }
-    ensures { IfOk result (ByWent
-        (λ done. TakesFor D.cells part primary.old primary.new replica.old replica.new)
-        (StopsFor D.cells (Some part) primary.old primary.new replica.old replica.new)) }
-{
-    let Some(job) = replica.job() else {
-        unreachable!()
-    };
-    if !lacks(job, &part.name) {
-        return Ok(Went::Done(()));
-    }
-    let number = job.number();
-    point_runs::<D>();
-    match replica.arrived(number, part) {
-        Ok(()) => Ok(Went::Done(())),
-        Err(fault) => {
-            is_dir_failed(fault)?;
             stop_for(alloc, primary, replica)?;
             Ok(Went::Failed)
         }

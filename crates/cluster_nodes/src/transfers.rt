@@ -7,11 +7,11 @@ ghost use Rattle.cluster_nodes.specs.JobChanges.{HasReplica, HasJob, HasNextFile
 ghost use Rattle.cluster_nodes.specs.JobPlaces.{AltersIn, CanBegin, BeginsIn, CanFinish, CanStop, StopsIn, FinishesIn, CanRead, ReadsIn, CanTake, TakesIn};
 ghost use Rattle.cluster_nodes.specs.Went.{ByWent};
 
-use crate::failed::is_failed;
+use crate::failed::{is_dir_failed, is_failed};
 use crate::held::HeldTicket;
-use crate::jobs::{begin_job, finish_job, read_for, stop_for, take_part};
+use crate::jobs::{begin_job, finish_job, read_for, stop_for};
 use crate::nodes::{Node, NodePlace, primary_in, put, take};
-use crate::states::next_lacking;
+use crate::states::{lacks, next_lacking};
 use crate::went::Went;
 use bytes::Bytes;
 use copy_job::Part;
@@ -21,6 +21,7 @@ use file_names::FileName;
 use index_primary::Primary;
 use nrt_base::{NoMemory, NodeNo};
 use replica_node::Replica;
+use replica_node::laws::point_runs;
 use std::alloc::Global;
 
 // The replica that is in this place.
@@ -220,11 +221,28 @@ pub fn take_in<D: Dir + Drop>(
         (λ done. TakesIn D.cells n.0 part places.old.items places.new.items)
         (StopsIn D.cells (Some part) p.0 n.0 places.old.items places.new.items)) }
 {
-    let (mut primary, primary_held) = take_primary(places, p);
     let (mut replica, held) = take_replica(places, n);
-    let taken = take_part(alloc, &mut primary, &mut replica, part);
-    put_both(places, p, n, primary, primary_held, replica, held);
-    taken
+    let Some(job) = replica.job() else {
+        unreachable!()
+    };
+    if !lacks(job, &part.name) {
+        let node = Node::Replica(replica);
+        put(places, n, NodePlace { node, held });
+        return Ok(Went::Done(()));
+    }
+    let number = job.number();
+    point_runs::<D>();
+    let arrived = replica.arrived(number, part);
+    let node = Node::Replica(replica);
+    put(places, n, NodePlace { node, held });
+    match arrived {
+        Ok(()) => Ok(Went::Done(())),
+        Err(fault) => {
+            is_dir_failed(fault)?;
+            stop_job_in(alloc, places, p, n)?;
+            Ok(Went::Failed)
+        }
+    }
 }
 
 // The next file that the job of this replica lacks.

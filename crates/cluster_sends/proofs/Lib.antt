@@ -1,1 +1,2 @@
+mod FarPlans
 mod SendPaths

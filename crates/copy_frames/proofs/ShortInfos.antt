@@ -3,23 +3,19 @@ use Rattle.std.proofs.Common.{◌≡◌, ℕ, ◌+◌, ◌*◌, ◌^◌, ◌<◌
 use Rattle.std.specs.Prelude.{codes}
 use Rattle.std.specs.List.{flat_map}
 use Rattle.std.specs.Fmt.{decimal}
-use Rattle.std.proofs.lemmas.Bool.{lt-ltb}
 use Rattle.std.proofs.lemmas.Fmt.{length-decimal-le}
 use Rattle.std.proofs.lemmas.List.{length-append}
-use Rattle.body_forms.specs.VInts.{vint, vint_within}
+use Rattle.body_forms.specs.VInts.{vint}
 use Rattle.body_forms.specs.Numbers.{u32_bytes, string}
 use Rattle.codec_frame.proofs.FrameLaws.{framed-length}
 use Rattle.segment_infos.specs.declared.infos.Infos.{Infos}
 use Rattle.segment_infos.specs.declared.infos.SegRecord.{SegRecord}
 use Rattle.segment_infos.specs.Infos.{record_bytes, user_data, infos_body, infos_wanted, infos_id, IsInfosFile}
 use Rattle.wire_frames.specs.Wire.{longest_infos}
+use Rattle.wire_frames.proofs.MessageLaws.{vint_short}
 
-string_few : (text : List ℕ) → length text < 128 → length (string text) ≡ 1 + length text
-unfolding vint_within
-string_few text few =
-    let one : length (vint (length text)) ≡ 1 = rw (lt-ltb (length text) 128 few) refl in
-    let both = length-append (vint (length text)) text in
-    omega (arith, one, both)
+string_short : (text : List ℕ) → length (string text) ≤ 5 + length text
+string_short text = omega (arith, vint_short (length text), length-append (vint (length text)) text)
 
 record_long : (r : SegRecord) → length (record_bytes r) ≡ 24
 unfolding record_bytes
@@ -33,15 +29,15 @@ records_long (r ∷ segs) =
     let others = records_long segs in
     omega (arith, both, first, others)
 
-data_short : (generation version : ℕ) → generation < 2 ^ 64 → version < 2 ^ 64 → length (user_data generation version) ≤ 69
+data_short : (generation version : ℕ) → generation < 2 ^ 64 → version < 2 ^ 64 → length (user_data generation version) ≤ 85
 unfolding user_data
 data_short generation version fits fits_too =
     let g : length (decimal generation) ≤ 20 = length-decimal-le 20 generation (omega arith) (omega (arith, fits)) fits in
     let v : length (decimal version) ≤ 20 = length-decimal-le 20 version (omega arith) (omega (arith, fits_too)) fits_too in
-    let one = string_few (codes "__primaryGen") (omega arith) in
-    let two = string_few (decimal generation) (omega (arith, g)) in
-    let three = string_few (codes "__version") (omega arith) in
-    let four = string_few (decimal version) (omega (arith, v)) in
+    let one = string_short (codes "__primaryGen") in
+    let two = string_short (decimal generation) in
+    let three = string_short (codes "__version") in
+    let four = string_short (decimal version) in
     let a = length-append (u32_bytes 2) (string (codes "__primaryGen") ++ (string (decimal generation) ++ (string (codes "__version") ++ string (decimal version)))) in
     let b = length-append (string (codes "__primaryGen")) (string (decimal generation) ++ (string (codes "__version") ++ string (decimal version))) in
     let c = length-append (string (decimal generation)) (string (codes "__version") ++ string (decimal version)) in

@@ -32,7 +32,7 @@ use Rattle.history_book.specs.declared.inner.Stop.TheVariants.{Inner as InnerSto
 use Rattle.history_book.specs.declared.inner.Mark.TheVariants.{Kept}
 use Rattle.history_book.specs.Log.{Log, Pages, FaultsFollow, FollowsMerging, printed, weave, marks, inner_marks, mark_for, stop_for}
 use Rattle.history_book.specs.Turns.{InTurn, AreInTurn}
-use Rattle.history_book.specs.Tells.{Tells, HasRoom, IsWoven}
+use Rattle.history_book.specs.Tells.{Tells, HasSpace, IsWoven}
 use Rattle.history_book.specs.Told.{IsTold}
 use Rattle.history_book.proofs.LineLaws.{flying, open_started}
 use Rattle.history_book.proofs.CopyLaws.{knows_newest}
@@ -205,12 +205,12 @@ pub opened : (size : ℕ) (stops : List Stop) (es : List Entry) (inners : List I
     → stops ≡ [] → es ≡ [] → inners ≡ [] → NumbersTell [] numbers → length rows ≡ size → RowsTell [] rows → lines ≡ [] → tickets ≡ [] → at_nodes ≡ [] → of_lanes ≡ []
     → IsWoven (reverse stops) (reverse es) (reverse inners) (length es) × Tells (printed (weave (reverse stops) (reverse es) (reverse inners))) size (length es) numbers rows lines tickets
     × HoldsJobs size (weave (reverse stops) (reverse es) (reverse inners)) at_nodes of_lanes × IsTold (weave (reverse stops) (reverse es) (reverse inners))
-    × HasRoom 0 spare_entries spare_inners spare_stops
+    × HasSpace 0 spare_entries spare_inners spare_stops
 opened size stops es inners numbers rows lines tickets at_nodes of_lanes a b c s e o n count r l t x y =
     subst
     (λ (p : List Stop × List Entry × List Inner × List LineRow × List TicketRow × List KeyedJob × List KeyedJob). IsWoven (reverse p.0) (reverse p.1) (reverse p.2) (length p.1)
     × Tells (printed (weave (reverse p.0) (reverse p.1) (reverse p.2))) size (length p.1) numbers rows p.3 p.4 × HoldsJobs size (weave (reverse p.0) (reverse p.1) (reverse p.2)) p.5 p.6
-    × IsTold (weave (reverse p.0) (reverse p.1) (reverse p.2)) × HasRoom 0 a b c)
+    × IsTold (weave (reverse p.0) (reverse p.1) (reverse p.2)) × HasSpace 0 a b c)
     (λ i. (sym s i, sym e i, sym o i, sym l i, sym t i, sym x i, sym y i)) (
       record { printed_count = refl; inner_count = refl; faults = tt },
       record { legal = tt; turns = tt; entries = refl; nodes = count; numbers_tell = n; rows_tell = r; lines_tell = λ at. refl; tickets_tell = λ lane k. refl },

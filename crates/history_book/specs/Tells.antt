@@ -35,7 +35,7 @@ pub record IsWoven (stops : List Stop) (entries : List Entry) (inners : List Inn
   pub faults : FaultsFollow (weave stops entries inners)
 
 -- there is room for this many entries more, printed or inner, in lists that have so many places left
-pub record HasRoom (room entries inners stops : ℕ) : Type 0 where
+pub record HasSpace (room entries inners stops : ℕ) : Type 0 where
   pub of_entries : room ≤ entries
   pub of_inners : room ≤ inners
   pub of_stops : room ≤ stops

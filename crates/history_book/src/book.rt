@@ -1,16 +1,14 @@
 //! All entries of a cluster, and what they show at hand.
 
-ghost use Rattle.std.specs.Prelude.{ℕ, ◌≡◌, ◌<◌, Some, vec_len};
+ghost use Rattle.std.specs.Prelude.{◌≡◌, ◌<◌, Some, vec_len};
 ghost use Rattle.std.specs.List.{slice_get};
-ghost use Rattle.history_rules.specs.Nodes.{is_at};
-ghost use Rattle.history_rules.specs.Commits.{starts_commit};
-ghost use Rattle.history_tables.specs.Begins.{event_of};
 
 use crate::inner::{Inner, Stop, job_step, stop_for};
+use crate::starts::commit_node;
 use history_rules::{Entry, Event, FaultKind, History};
 use history_tables::{
-    BegunLine, Job, JobRow, JobTable, Lines, NodeRow, Numbers, Opening, Plans, Start, Tickets,
-    first_rows, step_rows,
+    BegunLine, Job, JobRow, JobTable, Lines, NodeRow, Numbers, Opening, Plans, Tickets, first_rows,
+    step_rows,
 };
 use nrt_base::{At, LaneNo, List, NodeNo, TicketNo, Version};
 use std::alloc::{AllocError, Global};
@@ -36,7 +34,7 @@ pub struct Book {
 impl Model for Book {
     ghost use Rattle.std.specs.Prelude.{◌-◌, min, vec_capacity, vec_len, reverse, length};
     ghost use Rattle.history_book.specs.Log.{Pages, printed, weave};
-    ghost use Rattle.history_book.specs.Tells.{IsWoven, HasRoom, Tells};
+    ghost use Rattle.history_book.specs.Tells.{IsWoven, HasSpace, Tells};
     ghost use Rattle.history_book.specs.Jobs.{HoldsJobs};
     ghost use Rattle.history_book.specs.Told.{IsTold};
     ghost use Rattle.documents.specs.contracts.query.Query as query;
@@ -62,7 +60,7 @@ impl Model for Book {
         × HoldsJobs b.nodes (weave (reverse b.stops.items) (reverse b.entries.items) (reverse b.inners.items))
         b.node_jobs.rows b.lane_jobs.rows
         × IsTold (weave (reverse b.stops.items) (reverse b.entries.items) (reverse b.inners.items))
-        × HasRoom b.room (vec_capacity b.entries - vec_len b.entries)
+        × HasSpace b.room (vec_capacity b.entries - vec_len b.entries)
         (vec_capacity b.inners - vec_len b.inners) (vec_capacity b.stops - vec_len b.stops) };
 }
 
@@ -73,20 +71,6 @@ fn row_at(rows: &Vec<NodeRow>, i: usize) -> NodeRow
 {
     let row = rows[i];
     row
-}
-
-// the node whose commit a line started as
-fn commit_node(start: Start) -> Option<NodeNo>
-    ensures { (k : ℕ) → starts_commit k (Some (event_of start)) ≡ is_at result k }
-{
-    match start {
-        Start::Committing { n, .. } => Some(n),
-        Start::Publishing => None,
-        Start::Copying { .. } => None,
-        Start::Settling { .. } => None,
-        Start::Searching { .. } => None,
-        Start::Asking { .. } => None,
-    }
 }
 
 impl Book {

@@ -4,6 +4,7 @@
 mod book;
 mod inner;
 pub mod laws;
+mod starts;
 mod whole;
 
 pub use book::Book;

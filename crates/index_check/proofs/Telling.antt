@@ -15,7 +15,7 @@ use Rattle.index_check.specs.Answers.{IsCutShort, IsDue}
 use Rattle.index_check.specs.Commit.{IsCommitFault, IsCommitRead, IsDueCommit}
 use Rattle.index_check.specs.declared.checking.Checked.{Checked}
 use Rattle.index_check.specs.Lines.{commit_line, name_and_number, fault_line}
-use Rattle.index_check.specs.Checks.{TellsFault, IsToldOf, TellsNone, TellsNumbers, IsRefusalOf, IsExactCheck}
+use Rattle.index_check.specs.Checks.{TellsFault, IsToldOf, TellsNoCommit, TellsNumbers, IsRefusalOf, IsExactCheck}
 
 abbrev pub Answer : Type 0
 Answer = Result (Option (ℕ × Infos × Vec Doc Global)) CheckFault
@@ -53,7 +53,7 @@ module _ (reads : Image) where
   its_parts x n infos docs (inr (inr e)) = e
 
   -- there is no commit
-  pub nothing_told : (result : Answer) (said : Result Checked AllocError) → IsCommitAnswer reads result → result ≡ Ok None → IfOk said TellsNone → IsExactCheck alloc_error reads said
+  pub nothing_told : (result : Answer) (said : Result Checked AllocError) → IsCommitAnswer reads result → result ≡ Ok None → IfOk said TellsNoCommit → IsExactCheck alloc_error reads said
   nothing_told result (Err none) h e is = record { told = tt; each = λ checked k. inl refl }
   nothing_told result (Ok said) h e is =
       record { told = subst (λ (o : Option CheckFault). IsToldOf reads o said.line) (sym is.fault_is) (inl (own.commit, is.line_is)); each = λ checked k. inr (by checked.fault checked.line k) }

@@ -39,7 +39,7 @@ abbrev pub IsCheckOf : Image → Checked → Type 0
 IsCheckOf reads checked = IsToldOf reads checked.fault checked.line
 
 -- there is no commit, and the line says so
-pub record TellsNone (checked : Checked) : Type 0 where
+pub record TellsNoCommit (checked : Checked) : Type 0 where
   pub fault_is : checked.fault ≡ None
   pub line_is : checked.line ≡ none_line
 

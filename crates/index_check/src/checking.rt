@@ -4,7 +4,7 @@ ghost use Rattle.std.specs.Prelude.{◌≡◌, ◌⊎◌, Ok, Err, IfOk, alloc_e
 ghost use Rattle.disk_model.specs.Disk.{reads_of};
 ghost use Rattle.index_check.specs.Images.{IsNoImage};
 ghost use Rattle.index_check.specs.Directory.{directory_with};
-ghost use Rattle.index_check.specs.Checks.{TellsNone, TellsNumbers, IsRefusalOf, IsCheckOfImage, IsExactCheck};
+ghost use Rattle.index_check.specs.Checks.{TellsNoCommit, TellsNumbers, IsRefusalOf, IsCheckOfImage, IsExactCheck};
 
 use crate::commit::read_commit;
 use crate::directory::memory_dir;
@@ -27,7 +27,7 @@ pub struct Checked {
 
 // A directory without a commit, with its line.
 fn without_commit(alloc: Global) -> Result<Checked, NoMemory>
-    ensures { IfOk result TellsNone }
+    ensures { IfOk result TellsNoCommit }
 {
     let line = none_line(alloc)?;
     Ok(Checked { line, fault: None })

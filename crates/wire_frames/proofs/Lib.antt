@@ -1,5 +1,5 @@
 mod FrameLaws
-mod MessageLaws
+pub mod MessageLaws
 mod NameTests
 mod Reading
 mod StateLaws

@@ -1,7 +1,8 @@
 -- A chunk in its frame, and chunks that are joined.
 use Rattle.std.proofs.Common.{◌≡◌, ℕ, ◌+◌, ◌<◌, ◌≤◌, List, [], ◌∷◌, ◌++◌, length, take, drop, Result, refl, sym, ap, subst, ◌∙◌, arith}
 use Rattle.std.specs.Prelude.{◌-◌, slice_range, IfOk}
-use Rattle.std.proofs.lemmas.List.{append-nil, length-take-le, length-drop, take-append-drop, take-take, take_all, drop-take}
+use Rattle.std.proofs.Math.Seq.{take-add}
+use Rattle.std.proofs.lemmas.List.{append-nil, length-take-le, length-drop, take_all}
 use Rattle.std.proofs.lemmas.List.Elements.{All-nil, All-cons}
 use Rattle.std.proofs.lemmas.Result.{IfOk-weaker}
 use Rattle.wire_frames.specs.declared.message.Message.{Message}
@@ -81,13 +82,6 @@ part_size bytes done end part within is =
     let some : end - done ≤ length (drop done bytes) = omega (arith, rest, within) in
     ap length is ∙ length-take-le (end - done) (drop done bytes) some
 
-take_more : (n m : ℕ) (xs : List ℕ) → take n xs ++ take m (drop n xs) ≡ take (n + m) xs
-take_more n m xs =
-    let few : n ≤ n + m = omega arith in
-    ap (λ (p : List ℕ). p ++ take m (drop n xs)) (sym (take-take n (n + m) xs few))
-    ∙ ap (λ (r : List ℕ). take n (take (n + m) xs) ++ r) (sym (drop-take n m xs))
-    ∙ take-append-drop n (take (n + m) xs)
-
 pub joined_on : (bytes : List ℕ) (done end : ℕ) (part file read seen next : List ℕ) → done ≤ end → end ≤ length bytes → part ≡ slice_range bytes done end → file ≡ take done bytes
     → read ≡ part → seen ≡ read → next ≡ file ++ seen → next ≡ take end bytes
 joined_on bytes done end part file read seen next later within is was brought shown put =
@@ -95,7 +89,7 @@ joined_on bytes done end part file read seen next later within is was brought sh
     put
     ∙ ap (λ (s : List ℕ). file ++ s) (shown ∙ brought ∙ is)
     ∙ ap (λ (f : List ℕ). f ++ slice_range bytes done end) was
-    ∙ take_more done (end - done) bytes
+    ∙ sym (take-add done (end - done) bytes)
     ∙ ap (λ (n : ℕ). take n bytes) size
 
 pub joined_last : (bytes : List ℕ) (done : ℕ) (file read : List ℕ) → length bytes ≤ done → file ≡ take done bytes → read ≡ file → read ≡ bytes

@@ -6,7 +6,7 @@ use Rattle.history_rules.specs.Nodes.{is_running, is_at, primary_of}
 use Rattle.cluster_state.specs.LifeCalls.{crash_event, crashed_plans, CrashesDirBy}
 use Rattle.cluster_state.specs.GivesUp.{met_log}
 use Rattle.cluster_state.specs.Run.{IsEnded, IsNow, files_at, plans_at}
-use Rattle.cluster_recovery.specs.Crashes.{CrashTells}
+use Rattle.cluster_core.specs.Given.{CrashTells}
 use Rattle.cluster_site.proofs.Stands.{call_stands, call_does}
 use Rattle.cluster_site.specs.Sites.{SiteRun}
 use Rattle.cluster_site.proofs.site.Site.crash.Goals as goal
@@ -37,7 +37,7 @@ returns-clause-plans g c =
 
 pub returns-clause-dir : goal.returns-clause-dir
 returns-clause-dir g c =
-    subst (λ (s : SiteRun). OnOk c.crash.result (CrashesDirBy (is_running c.args.n.0 (printed s.run.log)) g.D.Dir.cells g.D.FaultDir.leaves c.args.n.0 c.args.pick s.run c.crash.new.self)) c.self.view_is c.crash.ensures.dir
+    subst (λ (s : SiteRun). OnOk c.crash.result (CrashesDirBy (is_running c.args.n.0 (printed s.run.log)) g.D.Dir.cells g.D.FaultDir.names g.D.FaultDir.leaves c.args.n.0 c.args.pick s.run c.crash.new.self)) c.self.view_is c.crash.ensures.dir
 
 pub returns-clause-err : goal.returns-clause-err
 returns-clause-err g c =
