@@ -23,6 +23,8 @@ mod ReadyPaths
 mod ReplicaCount
 mod SendLoop
 mod SendSteps
+mod SentTold
+mod SizesEnded
 pub mod StandSteps
 pub mod StartPaths
 mod TaskBehind
