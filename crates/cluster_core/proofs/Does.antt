@@ -9,7 +9,6 @@ use Rattle.nrt_base.specs.declared.numbers.At.{At}
 use Rattle.nrt_base.specs.declared.numbers.NodeNo.{NodeNo}
 use Rattle.nrt_base.specs.declared.numbers.TicketNo.{TicketNo}
 use Rattle.nrt_base.specs.declared.numbers.Version.{Version}
-use Rattle.disk_model.specs.Disk.{Cells}
 use Rattle.documents.specs.declared.operation.Op.{Op}
 use Rattle.documents.specs.declared.operation.Op.TheVariants.{Put as PutOp, Delete as DeleteOp, Drop as DropOp}
 use Rattle.documents.specs.declared.query.Query.{Query}
@@ -38,7 +37,7 @@ use Rattle.script_serving.specs.declared.script.LineCommand.{LineCommand}
 use Rattle.script_serving.specs.declared.script.LineCommand.TheVariants.{Publish, Search, Open, Ask, Close, Files as ListOf}
 use Rattle.script_serving.specs.Refusals.{when, without_primary, without_node, names_are_spent, may_be_full, refusal}
 use Rattle.script_serving.specs.Serves.{First, Follows, Suits}
-use Rattle.cluster_state.specs.Run.{Run, IsNow}
+use Rattle.cluster_state.specs.Run.{Run, names_at, IsNow}
 use Rattle.cluster_state.specs.declared.turn.Turn.{Turn}
 use Rattle.cluster_state.specs.declared.turn.Turn.TheVariants.{Work, Done, Busy}
 use Rattle.lane_threads.specs.Owes.{SuitsOrFault}
@@ -144,11 +143,11 @@ close_replied at t old new (Some ticket) now = top_replied at new (Closed (recor
 
 -- ---- files
 
-pub files_does : {D : Type 0} {cells : D → Cells} (at : At) (n : NodeNo) (old new : Run) → IsFresh at (printed old.log) → ListsFiles cells at n old new → Does (ListOf n) at old new
-files_does at n old new fresh lists = row_does (ListOf n) at old new (without_node n.0 (printed old.log)) (Files n lists.names) (λ suits. suits) fresh refl lists.now refl
+pub files_does : (at : At) (n : NodeNo) (old new : Run) → IsFresh at (printed old.log) → ListsFiles at n old new → Does (ListOf n) at old new
+files_does at n old new fresh lists = row_does (ListOf n) at old new (without_node n.0 (printed old.log)) (Files n (names_at n.0 old)) (λ suits. suits) fresh refl lists refl
 
-pub files_replied : {D : Type 0} {cells : D → Cells} (at : At) (n : NodeNo) (old new : Run) → ListsFiles cells at n old new → IsReplied at new
-files_replied at n old new lists = row_replied at old new (without_node n.0 (printed old.log)) (Files n lists.names) refl lists.now
+pub files_replied : (at : At) (n : NodeNo) (old new : Run) → ListsFiles at n old new → IsReplied at new
+files_replied at n old new lists = row_replied at old new (without_node n.0 (printed old.log)) (Files n (names_at n.0 old)) refl lists
 
 -- ---- search and ask
 

@@ -43,6 +43,7 @@ impl<D: FaultDir + Drop> Cluster<D> {
         ensures ok { OnOk result (IsNow self.old self.new (shown at
             (open_event at.lane.0 n t (printed self.old.log)) ∷ self.old.log)) }
         ensures plans { OnOk result (self.new.rest.plans ≡ self.old.rest.plans) }
+        ensures names { OnOk result (self.new.rest.names ≡ self.old.rest.names) }
         ensures rest { OnOk result (KeepsRest self.old self.new) }
         ensures err { OnErr result (IsEnded self.old self.new) }
 
@@ -65,6 +66,7 @@ impl<D: FaultDir + Drop> Cluster<D> {
         requires node { IsNode self.old.nodes n.0 }
         ensures ok { IfOk result (SearchStarts at n self.old self.new) }
         ensures plans { OnOk result (self.new.rest.plans ≡ self.old.rest.plans) }
+        ensures names { OnOk result (self.new.rest.names ≡ self.old.rest.names) }
         ensures rest { OnOk result (KeepsRest self.old self.new) }
         ensures err { OnErr result (IsEnded self.old self.new) }
 
@@ -88,6 +90,7 @@ impl<D: FaultDir + Drop> Cluster<D> {
         requires fresh { entries_of_line at (printed self.old.log) ≡ [] }
         ensures ok { IfOk result (AskStarts at t self.old self.new) }
         ensures plans { OnOk result (self.new.rest.plans ≡ self.old.rest.plans) }
+        ensures names { OnOk result (self.new.rest.names ≡ self.old.rest.names) }
         ensures rest { OnOk result (KeepsRest self.old self.new) }
         ensures err { OnErr result (IsEnded self.old self.new) }
 
@@ -149,8 +152,9 @@ impl<D: FaultDir + Drop> Cluster<D> {
         requires running { self.old.ended ≡ false }
         requires fresh { entries_of_line at (printed self.old.log) ≡ [] }
         requires node { IsNode self.old.nodes n.0 }
-        ensures ok { OnOk result (ListsFiles D.cells at n self.old self.new) }
+        ensures ok { OnOk result (ListsFiles at n self.old self.new) }
         ensures plans { OnOk result (self.new.rest.plans ≡ self.old.rest.plans) }
+        ensures names { OnOk result (self.new.rest.names ≡ self.old.rest.names) }
         ensures rest { OnOk result (KeepsRest self.old self.new) }
         ensures err { OnErr result (IsEnded self.old self.new) }
 

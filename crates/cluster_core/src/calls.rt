@@ -46,6 +46,7 @@ impl<D: FaultDir + Drop> Cluster<D> {
             (by_refusal (without_primary (printed self.old.log))
             (Event.Accepted (accepted_count (printed self.old.log) + 1) op)) ∷ self.old.log)) }
         ensures plans { OnOk result (self.new.rest.plans ≡ self.old.rest.plans) }
+        ensures names { OnOk result (self.new.rest.names ≡ self.old.rest.names) }
         ensures rest { OnOk result (KeepsRest self.old self.new) }
         ensures err { OnErr result (IsEnded self.old self.new) }
 
@@ -65,6 +66,7 @@ impl<D: FaultDir + Drop> Cluster<D> {
         ensures ok { OnOk result (IsNow self.old self.new (shown at
             (Event.Accepted (accepted_count (printed self.old.log) + 1) op) ∷ self.old.log)) }
         ensures plans { OnOk result (self.new.rest.plans ≡ self.old.rest.plans) }
+        ensures names { OnOk result (self.new.rest.names ≡ self.old.rest.names) }
         ensures rest { OnOk result (KeepsRest self.old self.new) }
         ensures err { OnErr result (IsEnded self.old self.new) }
     {

@@ -103,7 +103,7 @@ impl<D: FaultDir + Drop> Cluster<D> {
     pub fn into_dir(self, n: NodeNo) -> D
         requires running { self.ended ≡ false }
         requires node { IsNode self.nodes n.0 }
-        ensures is { IsNodeDir D.cells self n.0 result }
+        ensures is { IsNodeDir D.cells D.names self n.0 result }
         ensures down { is_running n.0 (printed self.log) ≡ false
             → FindsVersion (printed self.log) n.0 (reads_of (D.cells result)) }
     {

@@ -15,7 +15,7 @@ impl<D: FaultDir + Drop> Cluster<D> {
     ghost use Rattle.history_book.specs.Log.{printed, shown};
     ghost use Rattle.script_serving.specs.declared.script.LineCommand.TheVariants.{Commit, Crash, Reopen};
     ghost use Rattle.cluster_state.specs.GivesUp.{met_log};
-    ghost use Rattle.cluster_state.specs.Run.{files_at, plans_at, IsNow, IsEnded};
+    ghost use Rattle.cluster_state.specs.Run.{files_at, plans_at, names_at, IsNow, IsEnded};
     ghost use Rattle.cluster_state.specs.Keeping.{TellsSameOfOthers, KeepsButCommit, KeepsButNode};
     ghost use Rattle.cluster_core.specs.Doing.{Does, IsReplied, IsRepliedAtDone, IsBegunAtWork};
     ghost use Rattle.cluster_state.specs.LifeCalls.{CommitStarts, CommitSteps, crash_event, crashed_plans, CrashesDirBy, ReopensNode};
@@ -82,7 +82,7 @@ impl<D: FaultDir + Drop> Cluster<D> {
         ensures plans { OnOk result (plans_at n.0 self.new
             ≡ crashed_plans (is_running n.0 (printed self.old.log)) (plans_at n.0 self.old)) }
         ensures dir { OnOk result (CrashesDirBy (is_running n.0 (printed self.old.log))
-            D.cells D.leaves n.0 pick self.old self.new) }
+            D.cells D.names D.leaves n.0 pick self.old self.new) }
         ensures rest { OnOk result (CrashTells (is_running n.0 (printed self.old.log))
             (is_at (primary_of (printed self.old.log)) n.0) n.0 self.old self.new) }
         ensures err { OnErr result (IsEnded self.old self.new) }
@@ -103,6 +103,7 @@ impl<D: FaultDir + Drop> Cluster<D> {
         ensures ok { OnOk result (ReopensNode at n self.old self.new) }
         ensures rest { OnOk result (KeepsButNode n.0 self.old self.new) }
         ensures disks { OnOk result (TellsSameOfOthers plans_at n.0 self.old self.new) }
+        ensures names { OnOk result (TellsSameOfOthers names_at n.0 self.old self.new) }
         ensures err { OnErr result (IsEnded self.old self.new) }
 
         // what the line is owed

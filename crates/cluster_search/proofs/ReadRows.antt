@@ -26,7 +26,7 @@ use Rattle.history_tables.specs.declared.tickets.Opening.{Opening}
 use Rattle.history_tables.specs.Begins.{event_of, open_line}
 use Rattle.history_tables.specs.Openings.{ticket_of}
 use Rattle.history_book.specs.Log.{Log, printed, shown}
-use Rattle.cluster_state.specs.Run.{Run, IsNow}
+use Rattle.cluster_state.specs.Run.{Run, names_at, IsNow}
 use Rattle.cluster_state.specs.GivesUp.{met_log}
 use Rattle.history_book.proofs.LineLaws.{open_started}
 use Rattle.history_book.proofs.OpenLaws.{last_started}
@@ -34,7 +34,6 @@ use Rattle.history_book.proofs.ReignLaws.{start_kept}
 use Rattle.cluster_search.proofs.Leasing.{ticket_node}
 use Rattle.cluster_state.specs.Calls.{ScansAt, AnswerEnds, by_refusal, LineRefused, ListsFiles}
 use Rattle.cluster_state.specs.Lists.{TellsFiles}
-use Rattle.disk_model.specs.Disk.{Cells}
 use Rattle.script_serving.specs.Refusals.{when}
 use Rattle.cluster_state.proofs.Rows.{legal_at, up_unrefused}
 
@@ -156,16 +155,9 @@ asking_ends at n t v query answer old new last now =
 -- ---- files
 
 -- a node that runs, or that is down
-pub listed : {D : Type 0} (cells : D → Cells) (at : At) (n : NodeNo) (old new : Run) → is_running n.0 (printed old.log) ≡ true → TellsFiles cells at n old new → ListsFiles cells at n old new
-listed cells at n old new up tells = record {
-  names = tells.names;
-  now = subst (λ (o : Option Cause). IsNow old new (shown at (by_refusal o (Files n tells.names)) ∷ old.log)) (sym (up_unrefused n.0 (printed old.log) up)) tells.now;
-  are = λ again. tells.are;
-}
+pub listed : (at : At) (n : NodeNo) (old new : Run) → is_running n.0 (printed old.log) ≡ true → TellsFiles at n old new → ListsFiles at n old new
+listed at n old new up tells = subst (λ (o : Option Cause). IsNow old new (shown at (by_refusal o (Files n (names_at n.0 old))) ∷ old.log)) (sym (up_unrefused n.0 (printed old.log) up)) tells
 
-pub unlisted : {D : Type 0} (cells : D → Cells) (at : At) (n : NodeNo) (old new : Run) → is_running n.0 (printed old.log) ≡ false → LineRefused at Down old new → ListsFiles cells at n old new
-unlisted cells at n old new down now = record {
-  names = [];
-  now = subst (λ (o : Option Cause). IsNow old new (shown at (by_refusal o (Files n [])) ∷ old.log)) (sym (ap (λ (b : Bool). when (not b) Down) down)) now;
-  are = λ up. absurd (true≢false (sym up ∙ down));
-}
+pub unlisted : (at : At) (n : NodeNo) (old new : Run) → is_running n.0 (printed old.log) ≡ false → LineRefused at Down old new → ListsFiles at n old new
+unlisted at n old new down now =
+    subst (λ (o : Option Cause). IsNow old new (shown at (by_refusal o (Files n (names_at n.0 old))) ∷ old.log)) (sym (ap (λ (b : Bool). when (not b) Down) down)) now

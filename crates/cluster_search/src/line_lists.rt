@@ -24,8 +24,9 @@ pub fn files<D: FaultDir + Drop>(
     requires running { state.old.ended ≡ false }
     requires fresh { entries_of_line at (printed state.old.log) ≡ [] }
     requires node { IsNode state.old.nodes n.0 }
-    ensures ok { OnOk result (ListsFiles D.cells at n state.old state.new) }
+    ensures ok { OnOk result (ListsFiles at n state.old state.new) }
     ensures plans { OnOk result (state.new.rest.plans ≡ state.old.rest.plans) }
+    ensures names { OnOk result (state.new.rest.names ≡ state.old.rest.names) }
     ensures rest { OnOk result (KeepsRest state.old state.new) }
     ensures err { OnErr result (IsEnded state.old state.new) }
 {

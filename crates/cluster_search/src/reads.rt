@@ -47,6 +47,7 @@ pub fn open_ticket<D: FaultDir + Drop>(
     ensures ok { OnOk result (IsNow cluster.old cluster.new (shown at (Event.Opened n t
         (record { 0 = version_of n.0 (printed cluster.old.log) })) ∷ cluster.old.log)) }
     ensures plans { OnOk result (cluster.new.rest.plans ≡ cluster.old.rest.plans) }
+    ensures names { OnOk result (cluster.new.rest.names ≡ cluster.old.rest.names) }
     ensures rest { OnOk result (KeepsRest cluster.old cluster.new) }
     ensures err { OnErr result (IsEnded cluster.old cluster.new) }
 {
@@ -84,6 +85,7 @@ pub fn open_search<D: FaultDir + Drop>(
     ensures lease { IfOk result (ReadsAt (printed cluster.old.log)
         (version_of n.0 (printed cluster.old.log))) }
     ensures plans { OnOk result (cluster.new.rest.plans ≡ cluster.old.rest.plans) }
+    ensures names { OnOk result (cluster.new.rest.names ≡ cluster.old.rest.names) }
     ensures rest { OnOk result (KeepsRest cluster.old cluster.new) }
     ensures err { OnErr result (IsEnded cluster.old cluster.new) }
 {
@@ -121,6 +123,7 @@ pub fn ask_ticket<D: FaultDir + Drop>(
         (shown at (Event.Asking opening.node t opening.version) ∷ cluster.old.log)) }
     ensures lease { IfOk result (ReadsAt (printed cluster.old.log) opening.version.0) }
     ensures plans { OnOk result (cluster.new.rest.plans ≡ cluster.old.rest.plans) }
+    ensures names { OnOk result (cluster.new.rest.names ≡ cluster.old.rest.names) }
     ensures rest { OnOk result (KeepsRest cluster.old cluster.new) }
     ensures err { OnErr result (IsEnded cluster.old cluster.new) }
 {

@@ -36,6 +36,7 @@ pub fn search_start<D: FaultDir + Drop>(
     requires node { IsNode state.old.nodes n.0 }
     ensures ok { IfOk result (SearchStarts at n state.old state.new) }
     ensures plans { OnOk result (state.new.rest.plans ≡ state.old.rest.plans) }
+    ensures names { OnOk result (state.new.rest.names ≡ state.old.rest.names) }
     ensures rest { OnOk result (KeepsRest state.old state.new) }
     ensures err { OnErr result (IsEnded state.old state.new) }
 {
@@ -57,6 +58,7 @@ pub fn ask_start<D: FaultDir + Drop>(
     requires fresh { entries_of_line at (printed state.old.log) ≡ [] }
     ensures ok { IfOk result (AskStarts at t state.old state.new) }
     ensures plans { OnOk result (state.new.rest.plans ≡ state.old.rest.plans) }
+    ensures names { OnOk result (state.new.rest.names ≡ state.old.rest.names) }
     ensures rest { OnOk result (KeepsRest state.old state.new) }
     ensures err { OnErr result (IsEnded state.old state.new) }
 {

@@ -32,6 +32,7 @@ pub fn ticket_open<D: FaultDir + Drop>(
     ensures ok { OnOk result (IsNow state.old state.new (shown at
         (open_event at.lane.0 n t (printed state.old.log)) ∷ state.old.log)) }
     ensures plans { OnOk result (state.new.rest.plans ≡ state.old.rest.plans) }
+    ensures names { OnOk result (state.new.rest.names ≡ state.old.rest.names) }
     ensures rest { OnOk result (KeepsRest state.old state.new) }
     ensures err { OnErr result (IsEnded state.old state.new) }
 {

@@ -22,6 +22,8 @@ use Rattle.cluster_state.specs.Met.{ClusterStands}
 use Rattle.cluster_state.specs.Run.{Rest, Run}
 use Rattle.cluster_state.proofs.Frames.{slot_kept}
 use Rattle.cluster_state.proofs.FileJobs.{PrimaryHere, ReplicaHere, primary_here, replica_here}
+use Rattle.cluster_state.specs.NamesIn.{place_names, names_in}
+use Rattle.cluster_state.proofs.NodeDirs.{names_are}
 use Rattle.cluster_sends.specs.Sends.{IsStateNow, AreOfCluster}
 
 -- ---- the copy state of a primary
@@ -80,9 +82,9 @@ module _ {D : Type 0} (cells : D → Cells) (r : Run) (ended : Bool) (size : ℕ
     replica_there none = none-some (record { node = Replica here_n.at.parts; held = here_n.at.held }) (sym none ∙ (still ∙ here_n.at.there))
 
     -- what was taken of the two places is the primary and the directory of the replica
-    pub both_taken : (q : PrimaryParts D) (held : Vec HeldTicket Global) (y : NodePlace D) (theirs : D) → place_of places p.0 ≡ Some (record { node = Primary q; held = held }) → place_of mid n.0 ≡ Some y → theirs ≡ dir_of y.node
-        → AreOfCluster cells r p.0 n.0 q theirs
-    both_taken q held y theirs there_p there_n theirs_is = record {
+    pub both_taken : (names : D → List Name) → rest.names ≡ names_in names places → (q : PrimaryParts D) (held : Vec HeldTicket Global) (y : NodePlace D) (theirs : D) → place_of places p.0 ≡ Some (record { node = Primary q; held = held }) → place_of mid n.0 ≡ Some y → theirs ≡ dir_of y.node
+        → AreOfCluster cells names r p.0 n.0 q theirs
+    both_taken names named q held y theirs there_p there_n theirs_is = record {
       places = places;
       stands = stands;
       both = record { primary = here_p.at; replica = here_n.at; apart = apart };
@@ -92,8 +94,13 @@ module _ {D : Type 0} (cells : D → Cells) (r : Run) (ended : Bool) (size : ℕ
           ap (λ (x : PrimaryParts D). x.point_infos.version.0) same_parts
           ∙ ap (λ (v : Version). v.0) (sym here_p.shows.node_shows.whole.versions)
           ∙ here_p.shows.node_shows.writer.version;
+      ours_told = names_are names p.0 r places told ∙ ap (place_names names) there_p;
+      theirs_told = names_are names n.0 r places told ∙ (ap (place_names names) (sym still ∙ there_n) ∙ ap names (sym theirs_is));
     }
       where
+        told : r.rest.names ≡ names_in names places
+        told = ap (λ (x : Run). x.rest.names) (sym view) ∙ named
+
         same_parts : q ≡ here_p.at.parts
         same_parts = one_primary q here_p.at.parts held here_p.at.held (sym there_p ∙ here_p.at.there)
 

@@ -12,7 +12,7 @@ use Rattle.history_book.specs.Log.{printed}
 use Rattle.cluster_nodes.specs.declared.nodes.NodePlace.{NodePlace}
 use Rattle.cluster_nodes.specs.JobPlaces.{AreBoth}
 use Rattle.cluster_state.specs.Met.{ClusterStands}
-use Rattle.cluster_state.specs.Run.{Run}
+use Rattle.cluster_state.specs.Run.{Run, names_at}
 
 -- the node is no replica of a running primary: none runs, or the node is down or is the primary
 abbrev pub HasNoSource : Past → ℕ → Type 0
@@ -31,21 +31,23 @@ module _ {D : Type 0} (cells : D → Cells) where
     pub lacking_are : lacking ≡ filter (λ q. is_none (reads_of (cells theirs) q)) (meta_names state.files)
     pub dir_is : cells dir ≡ cells p.dir
 
-  -- the primary and the directory of a replica, as a cluster that runs has them in these places
-  pub record AreOfCluster (r : Run) (p n : ℕ) (primary : PrimaryParts D) (theirs : D) : Type 0 where
+  -- the primary and the directory of a replica, as a cluster that runs has them in these places and tells the names of their files
+  pub record AreOfCluster (names : D → List Name) (r : Run) (p n : ℕ) (primary : PrimaryParts D) (theirs : D) : Type 0 where
     pub places : List (Option (NodePlace D))
     pub stands : ClusterStands cells r.nodes places r.rest.cut r.rest.tasks r.log
     pub both : AreBoth places p n
     pub primary_is : primary ≡ both.primary.parts
     pub theirs_is : theirs ≡ both.replica.parts.dir
+    pub ours_told : names_at p r ≡ names primary.dir
+    pub theirs_told : names_at n r ≡ names theirs
     pub newest : primary.point_infos.version.0 ≡ newest_version (printed r.log)
 
   -- what a copy of the newest point to the node takes, as the cluster stands
-  pub record IsSend (r : Run) (n : ℕ) (state : CopyState) (lacking : List Name) (dir : D) : Type 0 where
+  pub record IsSend (names : D → List Name) (r : Run) (n : ℕ) (state : CopyState) (lacking : List Name) (dir : D) : Type 0 where
     pub p : NodeNo
     pub source : primary_of (printed r.log) ≡ Some p
     pub replica : IsReplica (printed r.log) n
     pub primary : PrimaryParts D
     pub theirs : D
-    pub are : AreOfCluster r p.0 n primary theirs
+    pub are : AreOfCluster names r p.0 n primary theirs
     pub takes : Takes primary theirs state lacking dir

@@ -107,7 +107,7 @@ fn both_of<D: FaultDir + Drop>(cluster: ClusterState<D>, p: NodeNo, n: NodeNo) -
     requires primary { primary_of (printed cluster.log) ≡ Some p }
     requires node { IsNode cluster.nodes n.0 }
     requires replica { IsReplica (printed cluster.log) n.0 }
-    ensures { AreOfCluster D.cells cluster p.0 n.0 result.0 result.1 }
+    ensures { AreOfCluster D.cells D.names cluster p.0 n.0 result.0 result.1 }
 {
     let ClusterState { places, .. } = cluster;
     let mut places = places;
@@ -126,7 +126,7 @@ pub fn into_send<D: FaultDir + Drop>(
     requires running { cluster.ended ≡ false }
     requires node { IsNode cluster.nodes n.0 }
     ensures sending { IfOk result (λ sending. IfSome sending (λ s.
-        IsSend D.cells cluster n.0 s.state s.lacking.items s.dir)) }
+        IsSend D.cells D.names cluster n.0 s.state s.lacking.items s.dir)) }
     ensures none { result ≡ Ok None → HasNoSource (printed cluster.log) n.0 }
 {
     match source_of(&cluster, n) {

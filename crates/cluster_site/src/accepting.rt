@@ -69,6 +69,7 @@ impl<D: FaultDir + Drop> Site<D> {
             (by_refusal (without_primary (printed self.old.run.log))
             (Event.Accepted (accepted_count (printed self.old.run.log) + 1) op)) ∷ self.old.run.log)) }
         ensures plans { OnOk result (self.new.run.rest.plans ≡ self.old.run.rest.plans) }
+        ensures names { OnOk result (self.new.run.rest.names ≡ self.old.run.rest.names) }
         ensures rest { OnOk result (KeepsRest self.old.run self.new.run) }
         ensures err { OnErr result (IsEnded self.old.run self.new.run) }
         ensures kept { accepted_count (printed self.old.run.log) + 1 < 2 ^ 32 → OnOk result

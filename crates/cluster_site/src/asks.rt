@@ -41,6 +41,7 @@ impl<D: FaultDir + Drop> Site<D> {
         ensures ok { OnOk result (IsNow self.old.run self.new.run (shown at
             (open_event at.lane.0 n t (printed self.old.run.log)) ∷ self.old.run.log)) }
         ensures plans { OnOk result (self.new.run.rest.plans ≡ self.old.run.rest.plans) }
+        ensures names { OnOk result (self.new.run.rest.names ≡ self.old.run.rest.names) }
         ensures rest { OnOk result (KeepsRest self.old.run self.new.run) }
         ensures err { OnErr result (IsEnded self.old.run self.new.run) }
 
@@ -63,6 +64,7 @@ impl<D: FaultDir + Drop> Site<D> {
         requires node { IsNode self.old.run.nodes n.0 }
         ensures ok { IfOk result (SearchStarts at n self.old.run self.new.run) }
         ensures plans { OnOk result (self.new.run.rest.plans ≡ self.old.run.rest.plans) }
+        ensures names { OnOk result (self.new.run.rest.names ≡ self.old.run.rest.names) }
         ensures rest { OnOk result (KeepsRest self.old.run self.new.run) }
         ensures err { OnErr result (IsEnded self.old.run self.new.run) }
 
@@ -86,6 +88,7 @@ impl<D: FaultDir + Drop> Site<D> {
         requires fresh { entries_of_line at (printed self.old.run.log) ≡ [] }
         ensures ok { IfOk result (AskStarts at t self.old.run self.new.run) }
         ensures plans { OnOk result (self.new.run.rest.plans ≡ self.old.run.rest.plans) }
+        ensures names { OnOk result (self.new.run.rest.names ≡ self.old.run.rest.names) }
         ensures rest { OnOk result (KeepsRest self.old.run self.new.run) }
         ensures err { OnErr result (IsEnded self.old.run self.new.run) }
 
@@ -146,8 +149,9 @@ impl<D: FaultDir + Drop> Site<D> {
         requires running { self.old.run.ended ≡ false }
         requires fresh { entries_of_line at (printed self.old.run.log) ≡ [] }
         requires node { IsNode self.old.run.nodes n.0 }
-        ensures ok { OnOk result (ListsFiles D.cells at n self.old.run self.new.run) }
+        ensures ok { OnOk result (ListsFiles at n self.old.run self.new.run) }
         ensures plans { OnOk result (self.new.run.rest.plans ≡ self.old.run.rest.plans) }
+        ensures names { OnOk result (self.new.run.rest.names ≡ self.old.run.rest.names) }
         ensures rest { OnOk result (KeepsRest self.old.run self.new.run) }
         ensures err { OnErr result (IsEnded self.old.run self.new.run) }
 

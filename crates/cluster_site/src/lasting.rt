@@ -14,7 +14,7 @@ impl<D: FaultDir + Drop> Site<D> {
     ghost use Rattle.history_book.specs.Log.{printed, shown};
     ghost use Rattle.script_serving.specs.declared.script.LineCommand.TheVariants.{Commit, Crash, Reopen};
     ghost use Rattle.cluster_state.specs.GivesUp.{met_log};
-    ghost use Rattle.cluster_state.specs.Run.{files_at, plans_at, IsNow, IsEnded};
+    ghost use Rattle.cluster_state.specs.Run.{files_at, plans_at, names_at, IsNow, IsEnded};
     ghost use Rattle.cluster_state.specs.Keeping.{TellsSameOfOthers, KeepsButCommit, KeepsButNode};
     ghost use Rattle.cluster_core.specs.Doing.{IsReplied, IsRepliedAtDone, IsBegunAtWork};
     ghost use Rattle.cluster_site.specs.Sites.{DoesAtSite};
@@ -82,7 +82,7 @@ impl<D: FaultDir + Drop> Site<D> {
         ensures plans { OnOk result (plans_at n.0 self.new.run
             ≡ crashed_plans (is_running n.0 (printed self.old.run.log)) (plans_at n.0 self.old.run)) }
         ensures dir { OnOk result (CrashesDirBy (is_running n.0 (printed self.old.run.log))
-            D.cells D.leaves n.0 pick self.old.run self.new.run) }
+            D.cells D.names D.leaves n.0 pick self.old.run self.new.run) }
         ensures rest { OnOk result (CrashTells (is_running n.0 (printed self.old.run.log))
             (is_at (primary_of (printed self.old.run.log)) n.0) n.0 self.old.run self.new.run) }
         ensures err { OnErr result (IsEnded self.old.run self.new.run) }
@@ -103,6 +103,7 @@ impl<D: FaultDir + Drop> Site<D> {
         ensures ok { OnOk result (ReopensNode at n self.old.run self.new.run) }
         ensures rest { OnOk result (KeepsButNode n.0 self.old.run self.new.run) }
         ensures disks { OnOk result (TellsSameOfOthers plans_at n.0 self.old.run self.new.run) }
+        ensures names { OnOk result (TellsSameOfOthers names_at n.0 self.old.run self.new.run) }
         ensures err { OnErr result (IsEnded self.old.run self.new.run) }
 
         // what the line is owed

@@ -3,6 +3,7 @@ use Rattle.std.proofs.Common.{◌≡◌, ◌==◌, ℕ, zero, suc, Bool, true, f
 use Rattle.std.specs.Prelude.{unwrap_or, option_map}
 use Rattle.std.proofs.lemmas.Bool.{eqb-true}
 use Rattle.std.proofs.lemmas.Option.{slice_get-map}
+use Rattle.disk_model.specs.Disk.{Name}
 use Rattle.disk_model.specs.Faults.{Plans}
 use Rattle.merge_tasks.specs.Board.{Board}
 use Rattle.cluster_nodes.specs.declared.nodes.NodePlace.{NodePlace}
@@ -95,9 +96,9 @@ module _ {D : Type 0} where
 
 -- ---- in the terms of a call
 
-module _ {D : Type 0} (r now : Run) (carries : List Bool) (cut later : Bool) (board : Board) (plans next : List Plans) (old new : List (Option (NodePlace D)))
-    (was : record { calls_left = calls_in carries old; cut = cut; sizes = sizes_in old; jobs = jobs_in old; copies = copies_in old; tasks = board; plans = plans } ≡ r.rest)
-    (is : record { calls_left = calls_in carries new; cut = later; sizes = sizes_in new; jobs = jobs_in new; copies = copies_in new; tasks = board; plans = next } ≡ now.rest) (same : later ≡ cut) where
+module _ {D : Type 0} {named names : List (List Name)} (r now : Run) (carries : List Bool) (cut later : Bool) (board : Board) (plans next : List Plans) (old new : List (Option (NodePlace D)))
+    (was : record { calls_left = calls_in carries old; cut = cut; sizes = sizes_in old; jobs = jobs_in old; copies = copies_in old; tasks = board; plans = plans; names = named } ≡ r.rest)
+    (is : record { calls_left = calls_in carries new; cut = later; sizes = sizes_in new; jobs = jobs_in new; copies = copies_in new; tasks = board; plans = next; names = names } ≡ now.rest) (same : later ≡ cut) where
   calls_same : length new ≡ length old → ((m : ℕ) → place_calls (place_of new m) ≡ place_calls (place_of old m)) → calls_in carries new ≡ calls_in carries old
   calls_same count each = ap (with_own carries) (map_same place_calls old new count (λ k. each (suc k)))
 
@@ -112,8 +113,8 @@ module _ {D : Type 0} (r now : Run) (carries : List Bool) (cut later : Bool) (bo
       let jobs : jobs_in new ≡ jobs_in old = map_same place_files old new t.count (λ k. (t.each (suc k)).files) in
       let copies : copies_in new ≡ copies_in old = map_same place_copies old new t.count (λ k. (t.each (suc k)).copies) in
       sym is
-      ∙ ((λ i. record { calls_left = calls i; cut = same i; sizes = sizes i; jobs = jobs i; copies = copies i; tasks = board; plans = next })
-      ∙ (λ i. record (was i) { plans = (is i).plans }))
+      ∙ ((λ i. record { calls_left = calls i; cut = same i; sizes = sizes i; jobs = jobs i; copies = copies i; tasks = board; plans = next; names = names })
+      ∙ (λ i. record (was i) { plans = (is i).plans; names = (is i).names }))
 
   -- where it is but for the job at one
   pub but_job : (n : ℕ) → TellsButJob n old new → KeepsButJob n r now
@@ -122,8 +123,8 @@ module _ {D : Type 0} (r now : Run) (carries : List Bool) (cut later : Bool) (bo
         let calls = calls_same t.count t.calls in
         let sizes = sizes_same t.count t.sizes in
         sym is
-        ∙ ((λ i. record { calls_left = calls i; cut = same i; sizes = sizes i; jobs = jobs_in new; copies = copies_in new; tasks = board; plans = next })
-        ∙ (λ i. record (was i) { jobs = (is i).jobs; copies = (is i).copies; plans = (is i).plans }));
+        ∙ ((λ i. record { calls_left = calls i; cut = same i; sizes = sizes i; jobs = jobs_in new; copies = copies_in new; tasks = board; plans = next; names = names })
+        ∙ (λ i. record (was i) { jobs = (is i).jobs; copies = (is i).copies; plans = (is i).plans; names = (is i).names }));
     files = files_apart n t;
     copies = λ m apart. merged_are m now new (sym (ap (λ (x : Rest). x.copies) is)) ∙ (t.copies m apart ∙ sym (merged_are m r old (sym (ap (λ (x : Rest). x.copies) was))));
   }
@@ -139,7 +140,7 @@ module _ {D : Type 0} (r now : Run) (carries : List Bool) (cut later : Bool) (bo
         let sizes = sizes_same t.count t.sizes in
         let copies : copies_in new ≡ copies_in old = map_same place_copies old new t.count (λ k. told_all place_copies n old new t.copies here (suc k)) in
         sym is
-        ∙ ((λ i. record { calls_left = calls i; cut = same i; sizes = sizes i; jobs = jobs_in new; copies = copies i; tasks = board; plans = next })
-        ∙ (λ i. record (was i) { jobs = (is i).jobs; plans = (is i).plans }));
+        ∙ ((λ i. record { calls_left = calls i; cut = same i; sizes = sizes i; jobs = jobs_in new; copies = copies i; tasks = board; plans = next; names = names })
+        ∙ (λ i. record (was i) { jobs = (is i).jobs; plans = (is i).plans; names = (is i).names }));
     files = (but_job n t).files;
   }

@@ -1,7 +1,7 @@
 -- What callers are told beside the log stays where the node of one place is another that tells the same.
 use Rattle.std.proofs.Common.{◌≡◌, ◌==◌, ℕ, zero, suc, Bool, true, false, List, [], ◌∷◌, map, length, Some, None, Option, Vec, Global, slice_get, refl, ap, ◌∙◌, sym, arith, if◌then◌else◌}
 use Rattle.std.proofs.lemmas.Bool.{eqb-true}
-use Rattle.disk_model.specs.Disk.{Cells}
+use Rattle.disk_model.specs.Disk.{Name, Cells}
 use Rattle.disk_model.specs.Faults.{Plans}
 use Rattle.segment_infos.specs.declared.infos.SegRecord.{SegRecord}
 use Rattle.segment_steps.specs.Starting.{size_by}
@@ -28,16 +28,16 @@ use Rattle.cluster_state.proofs.Frames.{PutsBack}
 
 -- ---- over a run
 
--- where all but the faults that disks met is the same
+-- where all but the faults that disks met and the names of their files is the same
 pub kept_rest : (r : Run) {ended : Bool} {nodes : ℕ} {log : Log} (left now : Rest) → record { ended = ended; nodes = nodes; log = log; rest = left } ≡ r
     → now.calls_left ≡ left.calls_left → now.cut ≡ left.cut → now.sizes ≡ left.sizes → now.jobs ≡ left.jobs → now.copies ≡ left.copies → now.tasks ≡ left.tasks
-    → now ≡ record r.rest { plans = now.plans }
+    → now ≡ record r.rest { plans = now.plans; names = now.names }
 kept_rest r left now view calls cut sizes jobs copies tasks =
-    (λ i. record { calls_left = calls i; cut = cut i; sizes = sizes i; jobs = jobs i; copies = copies i; tasks = tasks i; plans = now.plans })
-    ∙ ap (λ (x : Run). record x.rest { plans = now.plans }) view
+    (λ i. record { calls_left = calls i; cut = cut i; sizes = sizes i; jobs = jobs i; copies = copies i; tasks = tasks i; plans = now.plans; names = now.names })
+    ∙ ap (λ (x : Run). record x.rest { plans = now.plans; names = now.names }) view
 
 pub rest_then : (a b c : Run) → KeepsRest a b → KeepsRest b c → KeepsRest a c
-rest_then a b c first second = second ∙ ap (λ (left : Rest). record left { plans = c.rest.plans }) first
+rest_then a b c first second = second ∙ ap (λ (left : Rest). record left { plans = c.rest.plans; names = c.rest.names }) first
 
 -- ---- over places
 
@@ -115,13 +115,13 @@ module _ {D : Type 0} where
 
 module _ {D : Type 0} (cells : D → Cells) where
   -- one place was taken out of its number, and another that tells the same was put there
-  pub put_keeps : (r : Run) (b0 b1 b2 : Sheet) (board : Board) (carries : List Bool) (old mid new : List (Option (NodePlace D))) (n : ℕ) (x y : NodePlace D) {ended : Bool} {plans later : List Plans}
-      → record { ended = ended; nodes = b0.nodes; log = b0.log; rest = record { calls_left = calls_in carries old; cut = b0.cut; sizes = sizes_in old; jobs = jobs_in old; copies = copies_in old; tasks = board; plans = plans } } ≡ r
+  pub put_keeps : (r : Run) (b0 b1 b2 : Sheet) (board : Board) (carries : List Bool) (old mid new : List (Option (NodePlace D))) (n : ℕ) (x y : NodePlace D) {ended : Bool} {plans later : List Plans} {named names : List (List Name)}
+      → record { ended = ended; nodes = b0.nodes; log = b0.log; rest = record { calls_left = calls_in carries old; cut = b0.cut; sizes = sizes_in old; jobs = jobs_in old; copies = copies_in old; tasks = board; plans = plans; names = named } } ≡ r
       → b1.cut ≡ b0.cut → b2.cut ≡ b1.cut → PutsBack cells old mid new n x → place_of old n ≡ Some y → TellsSame (Some y) (Some x)
-      → record { calls_left = calls_in carries new; cut = b2.cut; sizes = sizes_in new; jobs = jobs_in new; copies = copies_in new; tasks = board; plans = later } ≡ record r.rest { plans = later }
-  put_keeps r b0 b1 b2 board carries old mid new n x y {ended} {plans} {later} view c1 c2 put there same =
-      kept_rest r (record { calls_left = calls_in carries old; cut = b0.cut; sizes = sizes_in old; jobs = jobs_in old; copies = copies_in old; tasks = board; plans = plans })
-      (record { calls_left = calls_in carries new; cut = b2.cut; sizes = sizes_in new; jobs = jobs_in new; copies = copies_in new; tasks = board; plans = later })
+      → record { calls_left = calls_in carries new; cut = b2.cut; sizes = sizes_in new; jobs = jobs_in new; copies = copies_in new; tasks = board; plans = later; names = names } ≡ record r.rest { plans = later; names = names }
+  put_keeps r b0 b1 b2 board carries old mid new n x y {ended} {plans} {later} {named} {names} view c1 c2 put there same =
+      kept_rest r (record { calls_left = calls_in carries old; cut = b0.cut; sizes = sizes_in old; jobs = jobs_in old; copies = copies_in old; tasks = board; plans = plans; names = named })
+      (record { calls_left = calls_in carries new; cut = b2.cut; sizes = sizes_in new; jobs = jobs_in new; copies = copies_in new; tasks = board; plans = later; names = names })
       view (ap (with_own carries) (each place_calls same.calls)) (c2 ∙ c1) (sizes_first new ∙ (ap first_sizes (each place_sizes same.sizes) ∙ sym (sizes_first old))) (each place_files same.files) (each place_copies same.copies) refl
     where
       at_place : {X : Type 0} (f : Option (NodePlace D) → X) → f (Some x) ≡ f (Some y) → (m : ℕ) → f (place_of new m) ≡ f (place_of old m)

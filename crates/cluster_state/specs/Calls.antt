@@ -1,6 +1,5 @@
 -- What the calls of lines do: the entries that they add, and what they hand out.
 use Rattle.std.specs.Prelude.{ℕ, ◌≡◌, ◌≢◌, ◌∷◌, ◌==◌, ◌&&◌, Bool, true, not, List, length, if◌then◌else◌, Option, Some, None}
-use Rattle.disk_model.specs.Disk.{Name, Cells}
 use Rattle.std.specs.Option.{option_or}
 use Rattle.nrt_base.specs.declared.numbers.At.{At}
 use Rattle.nrt_base.specs.declared.numbers.NodeNo.{NodeNo}
@@ -25,8 +24,7 @@ use Rattle.script_serving.specs.Refusals.{when, without_primary, without_node, n
 use Rattle.history_book.specs.Log.{printed, shown}
 use Rattle.cluster_state.specs.declared.turn.Turn.{Turn}
 use Rattle.cluster_state.specs.declared.turn.Turn.TheVariants.{Work, Done, Busy}
-use Rattle.cluster_state.specs.Run.{Run, IsNow}
-use Rattle.cluster_state.specs.Lists.{AreNamesIn}
+use Rattle.cluster_state.specs.Run.{Run, names_at, IsNow}
 use Rattle.cluster_state.specs.State.{ReadsAt}
 use Rattle.cluster_state.specs.Writes.{IsFull, HandsFlush}
 use Rattle.cluster_state.specs.GivesUp.{met_log}
@@ -76,11 +74,9 @@ abbrev pub open_event : ℕ → NodeNo → TicketNo → Past → Event
 open_event lane n t past =
     by_refusal (option_or (when (has_ticket lane t.0 past) NameUsed) (without_node n.0 past)) (Opened n t (record { 0 = version_of n.0 past }))
 
--- a line lists the files of a node: these names, just those that stand in its directory, or the node is down
-pub record ListsFiles {D : Type 0} (cells : D → Cells) (at : At) (n : NodeNo) (old new : Run) : Type 0 where
-  pub names : List Name
-  pub now : IsNow old new (shown at (by_refusal (without_node n.0 (printed old.log)) (Files n names)) ∷ old.log)
-  pub are : is_running n.0 (printed old.log) ≡ true → AreNamesIn cells old n.0 names
+-- a line lists the files of a node: the names in its directory, or the node is down
+abbrev pub ListsFiles : At → NodeNo → Run → Run → Type 0
+ListsFiles at n old new = IsNow old new (shown at (by_refusal (without_node n.0 (printed old.log)) (Files n (names_at n.0 old))) ∷ old.log)
 
 -- a search starts at the version that the node searches, or its node is down
 abbrev pub SearchStarts : At → NodeNo → Run → Run → Turn (Lease Shown) → Type 0

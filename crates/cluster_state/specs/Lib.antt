@@ -20,6 +20,7 @@ pub mod Merging
 pub mod Met
 pub mod Moves
 pub mod Names
+pub mod NamesIn
 pub mod NodeDirs
 pub mod PlansIn
 pub mod Run

@@ -1,9 +1,9 @@
 -- What the calls of lines do that commit, crash and reopen: the entries that they add, and what they hand out.
-use Rattle.std.specs.Prelude.{ℕ, ◌≡◌, ◌≢◌, ◌&&◌, [], ◌∷◌, Bool, true, false, if◌then◌else◌, Option, None, ◌⊎◌}
+use Rattle.std.specs.Prelude.{ℕ, ◌≡◌, ◌≢◌, ◌&&◌, List, [], ◌∷◌, Bool, true, false, if◌then◌else◌, Option, None, ◌⊎◌}
 use Rattle.nrt_base.specs.declared.numbers.At.{At}
 use Rattle.nrt_base.specs.declared.numbers.NodeNo.{NodeNo}
 use Rattle.nrt_base.specs.declared.numbers.Version.{Version}
-use Rattle.disk_model.specs.Disk.{Cells, Image, restarted}
+use Rattle.disk_model.specs.Disk.{Name, Cells, Image, restarted}
 use Rattle.disk_model.specs.Faults.{Plans, ended}
 use Rattle.history_rules.specs.declared.cause.Cause.{Cause}
 use Rattle.history_rules.specs.declared.cause.Cause.TheVariants.{Lost, Up}
@@ -52,18 +52,18 @@ abbrev pub crashed_plans : Bool → Plans → Plans
 crashed_plans true old = ended old
 crashed_plans false old = old
 
--- the directory of the node is what the crash with this number leaves of the one before
-pub record CrashesDir {D : Type 0} (cells : D → Cells) (leaves : D → ℕ → Image) (n pick : ℕ) (old new : Run) : Type 0 where
+-- the directory of the node is what the crash with this number leaves of the one before, and callers are told the names of its files
+pub record CrashesDir {D : Type 0} (cells : D → Cells) (names : D → List Name) (leaves : D → ℕ → Image) (n pick : ℕ) (old new : Run) : Type 0 where
   pub dir : D
-  pub was : IsNodeDir cells old n dir
+  pub was : IsNodeDir cells names old n dir
   pub now : D
-  pub is : IsNodeDir cells new n now
+  pub is : IsNodeDir cells names new n now
   pub left : cells now ≡ restarted (leaves dir pick)
 
 -- the same of a line that crashes a node where it runs
-abbrev pub CrashesDirBy : {D : Type 0} → Bool → (D → Cells) → (D → ℕ → Image) → (n pick : ℕ) → Run → Run → Type 0
-CrashesDirBy true cells leaves n pick old new = CrashesDir cells leaves n pick old new
-CrashesDirBy false cells leaves n pick old new = Unit {0}
+abbrev pub CrashesDirBy : {D : Type 0} → Bool → (D → Cells) → (D → List Name) → (D → ℕ → Image) → (n pick : ℕ) → Run → Run → Type 0
+CrashesDirBy true cells names leaves n pick old new = CrashesDir cells names leaves n pick old new
+CrashesDirBy false cells names leaves n pick old new = Unit {0}
 
 -- the tasks of merges after a crash: none is posted and no merge is in flight where the primary crashed
 abbrev pub crashed_tasks : Bool → Board → Board

@@ -23,8 +23,8 @@ pub record JobFiles : Type 0 where
 
 -- How many calls of its directory the commit in flight at each node still needs, 0 where none is in flight; whether a merge was cut over
 -- since the last point; the sizes of the primary's segments, of which merges are chosen; the files of the job at each node, which runs or
--- was stopped, none where it has no job; the copies of merged segments that run at each node; the tasks of merges; and the faults that are
--- planned for each disk, with how many it has met.
+-- was stopped, none where it has no job; the copies of merged segments that run at each node; the tasks of merges; the faults that are planned
+-- for each disk, with how many it has met; and the names of the files in the directory of each node, ascending.
 pub record Rest : Type 0 where
   pub calls_left : List ℕ
   pub cut : Bool
@@ -33,6 +33,7 @@ pub record Rest : Type 0 where
   pub copies : List (List MergedCopy)
   pub tasks : Board
   pub plans : List Plans
+  pub names : List (List Name)
 
 -- whether it has ended, how many nodes it has, all that happened, newest first, and what else callers are told
 pub record Run : Type 0 where
@@ -64,6 +65,11 @@ abbrev pub plans_at : ℕ → Run → Plans
 plans_at zero r = no_plans
 plans_at (suc k) r = unwrap_or (slice_get r.rest.plans k) no_plans
 
+-- the names of the files in the directory of a node, ascending
+abbrev pub names_at : ℕ → Run → List Name
+names_at zero r = []
+names_at (suc k) r = unwrap_or (slice_get r.rest.names k) []
+
 -- the file is that of the stored documents of this segment
 abbrev pub is_docs_of : ℕ → Option Name → Bool
 is_docs_of seg None = false
@@ -90,9 +96,9 @@ pub record IsNow (old new : Run) (now : List Mark) : Type 0 where
   pub nodes : new.nodes ≡ old.nodes
   pub log : new.log ≡ now
 
--- what callers are told beside the log is as before, but for what is planned for disks and what they have met
+-- what callers are told beside the log is as before, but for what is planned for disks, what they have met, and the names of their files
 abbrev pub KeepsRest : Run → Run → Type 0
-KeepsRest old new = new.rest ≡ record old.rest { plans = new.rest.plans }
+KeepsRest old new = new.rest ≡ record old.rest { plans = new.rest.plans; names = new.rest.names }
 
 -- the call found no memory: the cluster has ended, and the log is as before
 pub record IsEnded (old new : Run) : Type 0 where

@@ -37,6 +37,7 @@ impl<D: FaultDir> Model for ClusterState<D> {
     ghost use Rattle.cluster_state.specs.JobsIn.{jobs_in};
     ghost use Rattle.cluster_state.specs.MergedCopies.{copies_in};
     ghost use Rattle.cluster_state.specs.PlansIn.{plans_in};
+    ghost use Rattle.cluster_state.specs.NamesIn.{names_in};
 
     ghost view = { λ c. record {
       ended = c.ended;
@@ -50,6 +51,7 @@ impl<D: FaultDir> Model for ClusterState<D> {
         copies = copies_in c.places.items;
         tasks = c.tasks;
         plans = plans_in D.planned c.places.items;
+        names = names_in D.names c.places.items;
       };
     } };
 
@@ -161,6 +163,7 @@ impl<D: FaultDir + Drop> ClusterState<D> {
         ensures tasks { OnOk result (self.new.rest.tasks ≡ self.old.rest.tasks) }
         ensures jobs { OnOk result (self.new.rest.jobs ≡ self.old.rest.jobs) }
         ensures plans { OnOk result (self.new.rest.plans ≡ self.old.rest.plans) }
+        ensures names { OnOk result (self.new.rest.names ≡ self.old.rest.names) }
         ensures rest { OnOk result (KeepsRest self.old self.new) }
         ensures err { OnErr result (IsEnded self.old self.new) }
     {

@@ -26,6 +26,7 @@ pub fn refuse<D: FaultDir + Drop>(
     ensures tasks { OnOk result (state.new.rest.tasks ≡ state.old.rest.tasks) }
     ensures jobs { OnOk result (state.new.rest.jobs ≡ state.old.rest.jobs) }
     ensures plans { OnOk result (state.new.rest.plans ≡ state.old.rest.plans) }
+    ensures names { OnOk result (state.new.rest.names ≡ state.old.rest.names) }
     ensures rest { OnOk result (KeepsRest state.old state.new) }
     ensures err { OnErr result (IsEnded state.old state.new) }
 {
@@ -45,6 +46,7 @@ pub fn refuse_turn<D: FaultDir + Drop, W>(
     requires cause { is_disk_fault cause ≡ false }
     ensures ok { IfOk result (IsRefusedTurn at cause state.old state.new) }
     ensures plans { OnOk result (state.new.rest.plans ≡ state.old.rest.plans) }
+    ensures names { OnOk result (state.new.rest.names ≡ state.old.rest.names) }
     ensures rest { OnOk result (KeepsRest state.old state.new) }
     ensures err { OnErr result (IsEnded state.old state.new) }
 {

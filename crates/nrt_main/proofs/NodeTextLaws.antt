@@ -3,7 +3,7 @@ use Rattle.std.proofs.Common.{◌≡◌, ◌≢◌, ◌<◌, ℕ, false, List, [
 use Rattle.std.specs.Io.KnownBytes.{Appends}
 use Rattle.disk_model.specs.Disk.{Name, reads_of}
 use Rattle.disk_memory.specs.declared.memory.MemDir.{MemDir}
-use Rattle.disk_memory.specs.Memory.{cells_in}
+use Rattle.disk_memory.specs.Memory.{cells_in, names_on}
 use Rattle.index_check.specs.Images.{NamedFile}
 use Rattle.dir_image.specs.ImagesNow.{AreReadAs, IsImageNow}
 use Rattle.copy_state.specs.declared.state.CopyState.{CopyState}
@@ -36,12 +36,12 @@ module _ (script : Script) (r : Run) (n : ℕ) (running : r.ended ≡ false) (le
   has_run : (bytes : List ℕ) → SpellsScript bytes script → HasRun bytes r
   has_run bytes grammar = record { script = script; grammar = grammar; running = running; legal = legal; serves = serves; told = told }
 
-  pub node_image : (dir : MemDir) (text : List ℕ) → IsNodeDir cells_in r n dir → (is_running n (printed r.log) ≡ false → FindsVersion (printed r.log) n (reads_of (cells_in dir)))
+  pub node_image : (dir : MemDir) (text : List ℕ) → IsNodeDir cells_in names_on r n dir → (is_running n (printed r.log) ≡ false → FindsVersion (printed r.log) n (reads_of (cells_in dir)))
       → IsImageNow (reads_of (cells_in dir)) text → (bytes : List ℕ) → SpellsScript bytes script → IsNodeImage bytes n text
   node_image dir text is down image bytes grammar =
       record { run = r; ran = has_run bytes grammar; node = (node_of_run script r n serves node).1; dir = dir; is = is; down = down; image = image }
 
-  pub node_copy : (state : CopyState) (lacking : List Name) (dir : MemDir) (text : List ℕ) → IsSend cells_in r n state lacking dir → AreCopyFrames state lacking dir text → (bytes : List ℕ)
+  pub node_copy : (state : CopyState) (lacking : List Name) (dir : MemDir) (text : List ℕ) → IsSend cells_in names_on r n state lacking dir → AreCopyFrames state lacking dir text → (bytes : List ℕ)
       → SpellsScript bytes script → IsNodeCopy bytes n text
   node_copy state lacking dir text is frames bytes grammar =
       record { run = r; ran = has_run bytes grammar; node = (node_of_run script r n serves node).1; state = state; lacking = lacking; dir = dir; is = is; frames = frames }
@@ -51,11 +51,11 @@ module _ (script : Script) (r : Run) (n : ℕ) (running : r.ended ≡ false) (le
 
 module _ (state r : Run) (n : ℕ) (same : state ≡ r) where
   -- what is sent is such where something is sent
-  pub send_of : (sending : Option (Sending MemDir)) (s : Sending MemDir) → IfSome sending (λ x. IsSend cells_in state n x.state x.lacking.items x.dir) → sending ≡ Some s
-      → IsSend cells_in r n s.state s.lacking.items s.dir
+  pub send_of : (sending : Option (Sending MemDir)) (s : Sending MemDir) → IfSome sending (λ x. IsSend cells_in names_on state n x.state x.lacking.items x.dir) → sending ≡ Some s
+      → IsSend cells_in names_on r n s.state s.lacking.items s.dir
   send_of sending s all is =
-      subst (λ (x : Run). IsSend cells_in x n s.state s.lacking.items s.dir) same
-      (subst (λ (o : Option (Sending MemDir)). IfSome o (λ x. IsSend cells_in state n x.state x.lacking.items x.dir)) is all)
+      subst (λ (x : Run). IsSend cells_in names_on x n s.state s.lacking.items s.dir) same
+      (subst (λ (o : Option (Sending MemDir)). IfSome o (λ x. IsSend cells_in names_on state n x.state x.lacking.items x.dir)) is all)
 
   pub none_of : HasNoSource (printed state.log) n → HasNoSource (printed r.log) n
   none_of none = subst (λ (x : Run). HasNoSource (printed x.log) n) same none

@@ -3,7 +3,7 @@ use Rattle.std.specs.Prelude.{ℕ, ◌≡◌, ◌≤◌, ◌<◌, List, [], take
 use Rattle.std.specs.Io.KnownBytes.{Appends}
 use Rattle.disk_model.specs.Disk.{Name, reads_of}
 use Rattle.disk_memory.specs.declared.memory.MemDir.{MemDir}
-use Rattle.disk_memory.specs.Memory.{cells_in}
+use Rattle.disk_memory.specs.Memory.{cells_in, names_on}
 use Rattle.index_check.specs.Images.{NamedFile}
 use Rattle.dir_image.specs.ImagesNow.{AreReadAs, IsImageNow}
 use Rattle.copy_state.specs.declared.state.CopyState.{CopyState}
@@ -52,7 +52,7 @@ pub record IsNodeImage (bytes : List ℕ) (n : ℕ) (text : List ℕ) : Type 0 w
   pub ran : HasRun bytes run
   pub node : n ≤ run.nodes
   pub dir : MemDir
-  pub is : IsNodeDir cells_in run n dir
+  pub is : IsNodeDir cells_in names_on run n dir
   pub down : is_running n (printed run.log) ≡ false → FindsVersion (printed run.log) n (reads_of (cells_in dir))
   pub image : IsImageNow (reads_of (cells_in dir)) text
 
@@ -71,7 +71,7 @@ pub record IsNodeCopy (bytes : List ℕ) (n : ℕ) (text : List ℕ) : Type 0 wh
   pub state : CopyState
   pub lacking : List Name
   pub dir : MemDir
-  pub is : IsSend cells_in run n state lacking dir
+  pub is : IsSend cells_in names_on run n state lacking dir
   pub frames : AreCopyFrames state lacking dir text
 
 -- a cluster has run the script that the bytes are, and no copy to its node n can begin: no primary runs, or the node is down or is the primary

@@ -7,8 +7,8 @@ use Rattle.cluster_search.proofs.line_lists.files.Goals as goal
 
 pub returns-then-not-runs-clause-ok : goal.returns-then-not-runs-clause-ok
 returns-then-not-runs-clause-ok g c = on_ok_weaker c.refuse.result
-    (λ refused. unlisted g.D.Dir.cells c.args.at c.args.n _ _ (sym (c.runs.ensures ∙ ap (λ (l : Log). is_running c.args.n.0 (printed l)) c.book.ensures.log) ∙ c.if-not-runs.true) refused) c.refuse.ensures.ok
+    (λ refused. unlisted c.args.at c.args.n _ _ (sym (c.runs.ensures ∙ ap (λ (l : Log). is_running c.args.n.0 (printed l)) c.book.ensures.log) ∙ c.if-not-runs.true) refused) c.refuse.ensures.ok
 
 pub returns-clause-ok : goal.returns-clause-ok
 returns-clause-ok g c = on_ok_weaker c.list_files.result
-    (listed g.D.Dir.cells c.args.at c.args.n _ _ (sym (c.runs.ensures ∙ ap (λ (l : Log). is_running c.args.n.0 (printed l)) c.book.ensures.log) ∙ c.if-not-runs.false)) c.list_files.ensures.ok
+    (listed c.args.at c.args.n _ _ (sym (c.runs.ensures ∙ ap (λ (l : Log). is_running c.args.n.0 (printed l)) c.book.ensures.log) ∙ c.if-not-runs.false)) c.list_files.ensures.ok

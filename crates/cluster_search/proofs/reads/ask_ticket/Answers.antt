@@ -52,5 +52,8 @@ show-requires-clause-turn g c = fresh_turn_at c.cluster.inside.ledger c.reserve.
 pub returns-clause-plans : goal.returns-clause-plans
 returns-clause-plans g c = ap (λ (r : Run). r.rest.plans) c.cluster.view_is
 
+pub returns-clause-names : goal.returns-clause-names
+returns-clause-names g c = ap (λ (r : Run). r.rest.names) c.cluster.view_is
+
 pub returns-clause-rest : goal.returns-clause-rest
 returns-clause-rest g c = kept_rest c.args.cluster.now _ _ c.cluster.view_is refl (c.show.ensures.cut ∙ c.in_ok-reserve.ensures.cut) refl refl refl refl

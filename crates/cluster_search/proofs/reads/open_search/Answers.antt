@@ -12,6 +12,7 @@ use Rattle.history_rules.specs.declared.entry.Event.TheVariants.{Opened}
 use Rattle.cluster_state.specs.Run.{Run}
 use Rattle.cluster_state.proofs.MergingPaths.{third_at, put_shown, like_want, like_keeps}
 use Rattle.cluster_state.proofs.RestKept.{put_keeps, node_tells}
+use Rattle.cluster_state.specs.NamesIn.{place_names}
 use Rattle.cluster_state.specs.PlansIn.{place_plans}
 use Rattle.cluster_state.proofs.Behind.{put_each}
 use Rattle.cluster_search.proofs.reads.open_search.Goals as goal
@@ -95,6 +96,13 @@ returns-clause-plans g c =
     (record { count = c.take-place.ensures.count; taken = c.take-place.ensures.places; again = c.put.ensures.count; there = c.put.ensures.places })
     c.take-place.ensures.place (ap g.D.FaultDir.planned c.in_ok-holding.ensures.dir)
     ∙ ap (λ (r : Run). r.rest.plans) c.cluster.view_is
+
+pub returns-clause-names : goal.returns-clause-names
+returns-clause-names g c =
+    put_each g.D.Dir.cells (place_names g.D.FaultDir.names) c.cluster.inside.places.items c.take-place.new.places.items c.put.new.places.items c.args.n.0 c.hold_ticket-holding.new.place c.take-place.result
+    (record { count = c.take-place.ensures.count; taken = c.take-place.ensures.places; again = c.put.ensures.count; there = c.put.ensures.places })
+    c.take-place.ensures.place (ap g.D.FaultDir.names c.in_ok-holding.ensures.dir)
+    ∙ ap (λ (r : Run). r.rest.names) c.cluster.view_is
 
 pub returns-clause-rest : goal.returns-clause-rest
 returns-clause-rest g c =

@@ -14,4 +14,4 @@ pub take-node-requires-clause-there : goal.take-node-requires-clause-there
 take-node-requires-clause-there g c = replica_there g.D.Dir.cells c.args.cluster _ c.cluster.inside.ledger.nodes c.cluster.inside.ledger.log c.cluster.inside.places.items _ c.cluster.view_is c.requires.running c.cluster.invariant c.args.p c.args.n c.requires.source c.requires.node c.requires.primary c.requires.replica _ c.take_primary-primary.ensures.count c.take_primary-primary.ensures.places
 
 pub returns : goal.returns
-returns g c = both_taken g.D.Dir.cells c.args.cluster _ c.cluster.inside.ledger.nodes c.cluster.inside.ledger.log c.cluster.inside.places.items _ c.cluster.view_is c.requires.running c.cluster.invariant c.args.p c.args.n c.requires.source c.requires.node c.requires.primary c.requires.replica _ c.take_primary-primary.ensures.count c.take_primary-primary.ensures.places _ _ c.take-node.result c.dir_in.result c.take_primary-primary.ensures.place c.take-node.ensures.place c.dir_in.ensures
+returns g c = both_taken g.D.Dir.cells c.args.cluster _ c.cluster.inside.ledger.nodes c.cluster.inside.ledger.log c.cluster.inside.places.items _ c.cluster.view_is c.requires.running c.cluster.invariant c.args.p c.args.n c.requires.source c.requires.node c.requires.primary c.requires.replica _ c.take_primary-primary.ensures.count c.take_primary-primary.ensures.places g.D.FaultDir.names refl _ _ c.take-node.result c.dir_in.result c.take_primary-primary.ensures.place c.take-node.ensures.place c.dir_in.ensures

@@ -20,7 +20,7 @@ returns-clause-replied g c = on_ok_weaker c.crash.result (λ now. crash_replied 
 
 pub returns-clause-dir : goal.returns-clause-dir
 returns-clause-dir g c =
-    subst (λ (r : Run). OnOk c.crash.result (CrashesDirBy (is_running c.args.n.0 (printed r.log)) g.D.Dir.cells g.D.FaultDir.leaves c.args.n.0 c.args.pick r c.crash.new.state)) c.self.view_is c.crash.ensures.dir
+    subst (λ (r : Run). OnOk c.crash.result (CrashesDirBy (is_running c.args.n.0 (printed r.log)) g.D.Dir.cells g.D.FaultDir.names g.D.FaultDir.leaves c.args.n.0 c.args.pick r c.crash.new.state)) c.self.view_is c.crash.ensures.dir
 
 pub returns-clause-rest : goal.returns-clause-rest
 returns-clause-rest g c =

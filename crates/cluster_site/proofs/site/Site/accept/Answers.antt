@@ -25,6 +25,9 @@ returns-in_default-clause-ok g c =
 pub returns-in_default-clause-plans : goal.returns-in_default-clause-plans
 returns-in_default-clause-plans g c = subst (λ (s : SiteRun). OnOk c.accept.result (c.accept.new.self.rest.plans ≡ s.run.rest.plans)) c.self.view_is c.accept.ensures.plans
 
+pub returns-in_default-clause-names : goal.returns-in_default-clause-names
+returns-in_default-clause-names g c = subst (λ (s : SiteRun). OnOk c.accept.result (c.accept.new.self.rest.names ≡ s.run.rest.names)) c.self.view_is c.accept.ensures.names
+
 pub returns-in_default-clause-rest : goal.returns-in_default-clause-rest
 returns-in_default-clause-rest g c = subst (λ (s : SiteRun). OnOk c.accept.result (KeepsRest s.run c.accept.new.self)) c.self.view_is c.accept.ensures.rest
 
@@ -63,6 +66,9 @@ returns-in-Ok-clause-ok g c =
 
 pub returns-in-Ok-clause-plans : goal.returns-in-Ok-clause-plans
 returns-in-Ok-clause-plans g c = subst (λ (s : SiteRun). OnOk c.accept-in-Ok.result (c.accept-in-Ok.new.self.rest.plans ≡ s.run.rest.plans)) c.self.view_is c.accept-in-Ok.ensures.plans
+
+pub returns-in-Ok-clause-names : goal.returns-in-Ok-clause-names
+returns-in-Ok-clause-names g c = subst (λ (s : SiteRun). OnOk c.accept-in-Ok.result (c.accept-in-Ok.new.self.rest.names ≡ s.run.rest.names)) c.self.view_is c.accept-in-Ok.ensures.names
 
 pub returns-in-Ok-clause-rest : goal.returns-in-Ok-clause-rest
 returns-in-Ok-clause-rest g c = subst (λ (s : SiteRun). OnOk c.accept-in-Ok.result (KeepsRest s.run c.accept-in-Ok.new.self)) c.self.view_is c.accept-in-Ok.ensures.rest

@@ -26,6 +26,9 @@ returns-clause-ok g c =
 pub returns-clause-plans : goal.returns-clause-plans
 returns-clause-plans g c = subst (λ (s : SiteRun). OnOk c.ask_start.result (c.ask_start.new.self.rest.plans ≡ s.run.rest.plans)) c.self.view_is c.ask_start.ensures.plans
 
+pub returns-clause-names : goal.returns-clause-names
+returns-clause-names g c = subst (λ (s : SiteRun). OnOk c.ask_start.result (c.ask_start.new.self.rest.names ≡ s.run.rest.names)) c.self.view_is c.ask_start.ensures.names
+
 pub returns-clause-rest : goal.returns-clause-rest
 returns-clause-rest g c = subst (λ (s : SiteRun). OnOk c.ask_start.result (KeepsRest s.run c.ask_start.new.self)) c.self.view_is c.ask_start.ensures.rest
 

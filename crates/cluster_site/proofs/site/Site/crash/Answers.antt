@@ -37,7 +37,7 @@ returns-clause-plans g c =
 
 pub returns-clause-dir : goal.returns-clause-dir
 returns-clause-dir g c =
-    subst (λ (s : SiteRun). OnOk c.crash.result (CrashesDirBy (is_running c.args.n.0 (printed s.run.log)) g.D.Dir.cells g.D.FaultDir.leaves c.args.n.0 c.args.pick s.run c.crash.new.self)) c.self.view_is c.crash.ensures.dir
+    subst (λ (s : SiteRun). OnOk c.crash.result (CrashesDirBy (is_running c.args.n.0 (printed s.run.log)) g.D.Dir.cells g.D.FaultDir.names g.D.FaultDir.leaves c.args.n.0 c.args.pick s.run c.crash.new.self)) c.self.view_is c.crash.ensures.dir
 
 pub returns-clause-err : goal.returns-clause-err
 returns-clause-err g c =

@@ -17,10 +17,13 @@ returns-clause-does g c = call_does g.D.Dir.cells g.D.Dir.plans c.self.inside.cl
 
 pub returns-clause-ok : goal.returns-clause-ok
 returns-clause-ok g c =
-    subst (λ (s : SiteRun). OnOk c.files.result (ListsFiles g.D.Dir.cells c.args.at c.args.n s.run c.files.new.self)) c.self.view_is c.files.ensures.ok
+    subst (λ (s : SiteRun). OnOk c.files.result (ListsFiles c.args.at c.args.n s.run c.files.new.self)) c.self.view_is c.files.ensures.ok
 
 pub returns-clause-plans : goal.returns-clause-plans
 returns-clause-plans g c = subst (λ (s : SiteRun). OnOk c.files.result (c.files.new.self.rest.plans ≡ s.run.rest.plans)) c.self.view_is c.files.ensures.plans
+
+pub returns-clause-names : goal.returns-clause-names
+returns-clause-names g c = subst (λ (s : SiteRun). OnOk c.files.result (c.files.new.self.rest.names ≡ s.run.rest.names)) c.self.view_is c.files.ensures.names
 
 pub returns-clause-rest : goal.returns-clause-rest
 returns-clause-rest g c = subst (λ (s : SiteRun). OnOk c.files.result (KeepsRest s.run c.files.new.self)) c.self.view_is c.files.ensures.rest

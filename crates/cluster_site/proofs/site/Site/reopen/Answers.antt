@@ -2,7 +2,7 @@ use Rattle.std.proofs.Common.{refl, subst}
 use Rattle.std.specs.Prelude.{OnErr, OnOk}
 use Rattle.script_serving.specs.declared.script.LineCommand.TheVariants.{Reopen}
 use Rattle.cluster_state.specs.LifeCalls.{ReopensNode}
-use Rattle.cluster_state.specs.Run.{IsEnded, plans_at}
+use Rattle.cluster_state.specs.Run.{IsEnded, names_at, plans_at}
 use Rattle.cluster_site.proofs.Stands.{call_stands, call_does}
 use Rattle.cluster_site.specs.Sites.{SiteRun}
 use Rattle.cluster_state.specs.Keeping.{TellsSameOfOthers, KeepsButNode}
@@ -27,6 +27,10 @@ returns-clause-rest g c =
 pub returns-clause-disks : goal.returns-clause-disks
 returns-clause-disks g c =
     subst (λ (s : SiteRun). OnOk c.reopen.result (TellsSameOfOthers plans_at c.args.n.0 s.run c.reopen.new.self)) c.self.view_is c.reopen.ensures.disks
+
+pub returns-clause-names : goal.returns-clause-names
+returns-clause-names g c =
+    subst (λ (s : SiteRun). OnOk c.reopen.result (TellsSameOfOthers names_at c.args.n.0 s.run c.reopen.new.self)) c.self.view_is c.reopen.ensures.names
 
 pub returns-clause-err : goal.returns-clause-err
 returns-clause-err g c =

@@ -23,6 +23,9 @@ returns-clause-ok g c =
 pub returns-clause-plans : goal.returns-clause-plans
 returns-clause-plans g c = subst (λ (s : SiteRun). OnOk c.search_start.result (c.search_start.new.self.rest.plans ≡ s.run.rest.plans)) c.self.view_is c.search_start.ensures.plans
 
+pub returns-clause-names : goal.returns-clause-names
+returns-clause-names g c = subst (λ (s : SiteRun). OnOk c.search_start.result (c.search_start.new.self.rest.names ≡ s.run.rest.names)) c.self.view_is c.search_start.ensures.names
+
 pub returns-clause-rest : goal.returns-clause-rest
 returns-clause-rest g c = subst (λ (s : SiteRun). OnOk c.search_start.result (KeepsRest s.run c.search_start.new.self)) c.self.view_is c.search_start.ensures.rest
 

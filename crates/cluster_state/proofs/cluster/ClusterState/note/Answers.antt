@@ -42,5 +42,8 @@ returns-clause-jobs g c = ap (λ (r : Run). r.rest.jobs) c.self.view_is
 pub returns-clause-plans : goal.returns-clause-plans
 returns-clause-plans g c = ap (λ (r : Run). r.rest.plans) c.self.view_is
 
+pub returns-clause-names : goal.returns-clause-names
+returns-clause-names g c = ap (λ (r : Run). r.rest.names) c.self.view_is
+
 pub returns-clause-rest : goal.returns-clause-rest
 returns-clause-rest g c = kept_rest c.args.self.now _ _ c.self.view_is refl (c.show.ensures.cut ∙ c.in_ok-reserve.ensures.cut) refl refl refl refl
