@@ -3,7 +3,7 @@ use Rattle.std.proofs.Common.{◌≡◌, ◌==◌, ◌++◌, ◌∷◌, [], inl,
 use Rattle.std.specs.Prelude.{IsSome, IfSome, IsSomeAnd}
 use Rattle.std.proofs.lemmas.Bool.{eq-eqb}
 use Rattle.std.proofs.lemmas.List.{length-append}
-use Rattle.disk_model.specs.Disk.{Cells}
+use Rattle.disk_model.specs.Disk.{Name, Cells}
 use Rattle.disk_model.specs.Faults.{Plans}
 use Rattle.commit_steps.specs.declared.stage.CommitBook.{CommitBook}
 use Rattle.copy_job.specs.declared.copying.Part.{Part}
@@ -207,9 +207,9 @@ more_rows at factor old new w same =
 
 -- ---- in the terms of a call
 
-module _ {D : Type 0} (r now : Run) (carries : List Bool) (cut later : Bool) (board after : Board) (plans next : List Plans) (old new : List (Option (NodePlace D)))
-    (was : record { calls_left = calls_in carries old; cut = cut; sizes = sizes_in old; jobs = jobs_in old; copies = copies_in old; tasks = board; plans = plans } ≡ r.rest)
-    (is : record { calls_left = calls_in carries new; cut = later; sizes = sizes_in new; jobs = jobs_in new; copies = copies_in new; tasks = after; plans = next } ≡ now.rest) where
+module _ {D : Type 0} {named names : List (List Name)} (r now : Run) (carries : List Bool) (cut later : Bool) (board after : Board) (plans next : List Plans) (old new : List (Option (NodePlace D)))
+    (was : record { calls_left = calls_in carries old; cut = cut; sizes = sizes_in old; jobs = jobs_in old; copies = copies_in old; tasks = board; plans = plans; names = named } ≡ r.rest)
+    (is : record { calls_left = calls_in carries new; cut = later; sizes = sizes_in new; jobs = jobs_in new; copies = copies_in new; tasks = after; plans = next; names = names } ≡ now.rest) where
   calls_same : TellsCallsAndJobs old new → calls_in carries new ≡ calls_in carries old
   calls_same t = ap (with_own carries) (map_same place_calls old new t.count (λ k. t.calls (suc k)))
 
@@ -227,8 +227,8 @@ module _ {D : Type 0} (r now : Run) (carries : List Bool) (cut later : Bool) (bo
         let jobs = jobs_same t.both in
         let copies = copies_same t.both.count t.copies in
         sym is
-        ∙ ((λ i. record { calls_left = calls i; cut = later; sizes = sizes_in new; jobs = jobs i; copies = copies i; tasks = after; plans = next })
-        ∙ (λ i. record (was i) { cut = (is i).cut; sizes = (is i).sizes; tasks = (is i).tasks; plans = (is i).plans }));
+        ∙ ((λ i. record { calls_left = calls i; cut = later; sizes = sizes_in new; jobs = jobs i; copies = copies i; tasks = after; plans = next; names = names })
+        ∙ (λ i. record (was i) { cut = (is i).cut; sizes = (is i).sizes; tasks = (is i).tasks; plans = (is i).plans; names = (is i).names }));
     still = still;
   }
 
@@ -240,8 +240,8 @@ module _ {D : Type 0} (r now : Run) (carries : List Bool) (cut later : Bool) (bo
           let jobs = jobs_same t.both in
           let copies = copies_same t.both.count t.copies in
           sym is
-          ∙ ((λ i. record { calls_left = calls i; cut = same i; sizes = sizes_in new; jobs = jobs i; copies = copies i; tasks = after; plans = next })
-          ∙ (λ i. record (was i) { sizes = (is i).sizes; tasks = (is i).tasks; plans = (is i).plans }));
+          ∙ ((λ i. record { calls_left = calls i; cut = same i; sizes = sizes_in new; jobs = jobs i; copies = copies i; tasks = after; plans = next; names = names })
+          ∙ (λ i. record (was i) { sizes = (is i).sizes; tasks = (is i).tasks; plans = (is i).plans; names = (is i).names }));
       still = still;
     }
 
@@ -254,8 +254,8 @@ module _ {D : Type 0} (r now : Run) (carries : List Bool) (cut later : Bool) (bo
           let copies = copies_same t.both.count t.copies in
           let sizes = t.sizes in
           sym is
-          ∙ ((λ i. record { calls_left = calls i; cut = same i; sizes = sizes i; jobs = jobs i; copies = copies i; tasks = after; plans = next })
-          ∙ (λ i. record (was i) { tasks = (is i).tasks; plans = (is i).plans }));
+          ∙ ((λ i. record { calls_left = calls i; cut = same i; sizes = sizes i; jobs = jobs i; copies = copies i; tasks = after; plans = next; names = names })
+          ∙ (λ i. record (was i) { tasks = (is i).tasks; plans = (is i).plans; names = (is i).names }));
     }
 
     -- where all but a copy at one do
@@ -266,21 +266,21 @@ module _ {D : Type 0} (r now : Run) (carries : List Bool) (cut later : Bool) (bo
           let jobs = jobs_same t.both in
           let sizes = t.sizes in
           sym is
-          ∙ ((λ i. record { calls_left = calls i; cut = same i; sizes = sizes i; jobs = jobs i; copies = copies_in new; tasks = after; plans = next })
-          ∙ (λ i. record (was i) { copies = (is i).copies; tasks = (is i).tasks; plans = (is i).plans }));
+          ∙ ((λ i. record { calls_left = calls i; cut = same i; sizes = sizes i; jobs = jobs i; copies = copies_in new; tasks = after; plans = next; names = names })
+          ∙ (λ i. record (was i) { copies = (is i).copies; tasks = (is i).tasks; plans = (is i).plans; names = (is i).names }));
       copies = λ m apart. merged_are m now new (sym (ap (λ (x : Rest). x.copies) is)) ∙ (t.copies m apart ∙ sym (merged_are m r old (sym (ap (λ (x : Rest). x.copies) was))));
       own = ap (copies_but job) (merged_are n now new (sym (ap (λ (x : Rest). x.copies) is))) ∙ (t.own ∙ ap (copies_but job) (sym (merged_are n r old (sym (ap (λ (x : Rest). x.copies) was)))));
     }
 
 -- where no task changed either
 pub tasks_kept : (old new : Run) → KeepsButTasks old new → new.rest.tasks ≡ old.rest.tasks → KeepsRest old new
-tasks_kept old new kept tasks = kept.rest ∙ λ i. record old.rest { tasks = tasks i; plans = new.rest.plans }
+tasks_kept old new kept tasks = kept.rest ∙ λ i. record old.rest { tasks = tasks i; plans = new.rest.plans; names = new.rest.names }
 
 -- ---- by what came of the next step of a copy
 
-module _ {D : Type 0} (r now : Run) (carries : List Bool) (cut later : Bool) (board after : Board) (plans next : List Plans) (old new : List (Option (NodePlace D)))
-    (was : record { calls_left = calls_in carries old; cut = cut; sizes = sizes_in old; jobs = jobs_in old; copies = copies_in old; tasks = board; plans = plans } ≡ r.rest)
-    (is : record { calls_left = calls_in carries new; cut = later; sizes = sizes_in new; jobs = jobs_in new; copies = copies_in new; tasks = after; plans = next } ≡ now.rest) (same : later ≡ cut) where
+module _ {D : Type 0} {named names : List (List Name)} (r now : Run) (carries : List Bool) (cut later : Bool) (board after : Board) (plans next : List Plans) (old new : List (Option (NodePlace D)))
+    (was : record { calls_left = calls_in carries old; cut = cut; sizes = sizes_in old; jobs = jobs_in old; copies = copies_in old; tasks = board; plans = plans; names = named } ≡ r.rest)
+    (is : record { calls_left = calls_in carries new; cut = later; sizes = sizes_in new; jobs = jobs_in new; copies = copies_in new; tasks = after; plans = next; names = names } ≡ now.rest) (same : later ≡ cut) where
   pub all_kept : after ≡ board → TellsAll old new → KeepsRest r now
   all_kept board_is t = tasks_kept r now (but_tasks r now carries cut later board after plans next old new was is same t) (sym (ap (λ (x : Rest). x.tasks) is) ∙ (board_is ∙ ap (λ (x : Rest). x.tasks) was))
 
@@ -296,7 +296,7 @@ module _ {D : Type 0} (r now : Run) (carries : List Bool) (cut later : Bool) (bo
 -- where all is as before, it is but for the sizes
 pub none_sized : (old new : Run) → KeepsRest old new → KeepsButSizes old new
 none_sized old new kept = record {
-  rest = kept ∙ λ i. record old.rest { sizes = (sym sizes) i; tasks = (sym tasks) i; plans = new.rest.plans };
+  rest = kept ∙ λ i. record old.rest { sizes = (sym sizes) i; tasks = (sym tasks) i; plans = new.rest.plans; names = new.rest.names };
   still = λ same. kept;
 }
   where
@@ -309,7 +309,7 @@ none_sized old new kept = record {
 -- a line that was refused behind it
 pub sized_then : (a b c : Run) → KeepsButSizes a b → KeepsRest b c → KeepsButSizes a c
 sized_then a b c first second = record {
-  rest = second ∙ (ap (λ (left : Rest). record left { plans = c.rest.plans }) first.rest ∙ λ i. record a.rest { sizes = (sym sizes) i; tasks = (sym tasks) i; plans = c.rest.plans });
+  rest = second ∙ (ap (λ (left : Rest). record left { plans = c.rest.plans; names = c.rest.names }) first.rest ∙ λ i. record a.rest { sizes = (sym sizes) i; tasks = (sym tasks) i; plans = c.rest.plans; names = c.rest.names });
   still = λ same. rest_then a b c (first.still (ap (λ (x : Board). x.rows) (sym tasks) ∙ same)) second;
 }
   where

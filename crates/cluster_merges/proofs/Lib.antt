@@ -24,6 +24,7 @@ mod ReplicaCount
 mod SendLoop
 mod SendSteps
 mod SentTold
+mod SizesCut
 mod SizesEnded
 pub mod StandSteps
 pub mod StartPaths

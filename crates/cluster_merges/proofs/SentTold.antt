@@ -190,9 +190,9 @@ module _ {D : Type 0} where
 
 -- ---- in the terms of a call
 
-module _ {D : Type 0} (r now : Run) (carries : List Bool) (cut later : Bool) (board after : Board) (plans next : List Plans) (old new : List (Option (NodePlace D)))
-    (was : record { calls_left = calls_in carries old; cut = cut; sizes = sizes_in old; jobs = jobs_in old; copies = copies_in old; tasks = board; plans = plans } ≡ r.rest)
-    (is : record { calls_left = calls_in carries new; cut = later; sizes = sizes_in new; jobs = jobs_in new; copies = copies_in new; tasks = after; plans = next } ≡ now.rest) (same : later ≡ cut) (log : Log) (log_is : log ≡ r.log) where
+module _ {D : Type 0} {named names : List (List Name)} (r now : Run) (carries : List Bool) (cut later : Bool) (board after : Board) (plans next : List Plans) (old new : List (Option (NodePlace D)))
+    (was : record { calls_left = calls_in carries old; cut = cut; sizes = sizes_in old; jobs = jobs_in old; copies = copies_in old; tasks = board; plans = plans; names = named } ≡ r.rest)
+    (is : record { calls_left = calls_in carries new; cut = later; sizes = sizes_in new; jobs = jobs_in new; copies = copies_in new; tasks = after; plans = next; names = names } ≡ now.rest) (same : later ≡ cut) (log : Log) (log_is : log ≡ r.log) where
   files_were : (n : ℕ) → place_files (place_of old n) ≡ files_at n r
   files_were n = sym (files_are n r old (sym (ap (λ (x : Rest). x.jobs) was)))
 
@@ -211,8 +211,8 @@ module _ {D : Type 0} (r now : Run) (carries : List Bool) (cut later : Bool) (bo
         let calls : calls_in carries new ≡ calls_in carries old = ap (with_own carries) (map_same place_calls old new t.count (λ k. t.calls (suc k))) in
         let sizes = t.sizes in
         sym is
-        ∙ ((λ i. record { calls_left = calls i; cut = same i; sizes = sizes i; jobs = jobs_in new; copies = copies_in new; tasks = after; plans = next })
-        ∙ (λ i. record (was i) { jobs = (is i).jobs; copies = (is i).copies; tasks = (is i).tasks; plans = (is i).plans }));
+        ∙ ((λ i. record { calls_left = calls i; cut = same i; sizes = sizes i; jobs = jobs_in new; copies = copies_in new; tasks = after; plans = next; names = names })
+        ∙ (λ i. record (was i) { jobs = (is i).jobs; copies = (is i).copies; tasks = (is i).tasks; plans = (is i).plans; names = (is i).names }));
     each = all_both P P Q spread.left (λ s told again. seen s told) t.each t.each;
     files = λ m none. sym (files_now m) ∙ (t.files m none ∙ files_were m);
     copies = λ m none. sym (copies_now m) ∙ (t.copies m none ∙ copies_were m);

@@ -34,7 +34,7 @@ use Rattle.cluster_state.proofs.SizesTold.{sizes_at}
 use Rattle.cluster_merges.specs.MergeSizes.{without_range, IsToldStill, SizesEnd}
 
 -- a merge has this segment
-abbrev is_in : List SegNo → SegRecord → Bool
+abbrev pub is_in : List SegNo → SegRecord → Bool
 is_in inputs r = list_any (λ seg. seg.0 == r.seg.0) inputs
 
 -- ---- a merge that starts

@@ -47,7 +47,7 @@ pub returns-in-Err-clause-ok : goal.returns-in-Err-clause-ok
 returns-in-Err-clause-ok g c = spent_starts g.D.Dir.cells c.args.cluster.now c.cluster.inside.places.items c.ask_in.new.places.items c.cluster.inside.ledger c.reserve.new.self c.cluster.inside.tasks c.args.at c.args.p c.args.factor c.ask_in.result c.cluster.view_is c.requires.running c.cluster.invariant
     c.in_ok-reserve.ensures.log c.in_ok-reserve.ensures.nodes c.in_ok-reserve.ensures.cut (legal_of c.book-book.ensures.nodes c.book-book.ensures.log c.is_legal.ensures.legal) (turns_of c.book-book.ensures.log c.is_legal.ensures.turns) (fresh_of c.book-book.ensures.log c.is_fresh.ensures)
     c.requires.node c.requires.primary c.ask_in.ensures c.in-Err.fault c.in_ok-cause-in-Err.cause c.in-Err.is c.in_ok-cause-in-Err.ensures.0 c.in_ok-cause-in-Err.ensures.1
-    (calls_in c.cluster.inside.carries c.ask_in.new.places.items) c.reserve.new.self.cut (sizes_in c.ask_in.new.places.items) (copies_in c.ask_in.new.places.items) (jobs_in c.ask_in.new.places.items) _
+    (calls_in c.cluster.inside.carries c.ask_in.new.places.items) c.reserve.new.self.cut (sizes_in c.ask_in.new.places.items) (copies_in c.ask_in.new.places.items) (jobs_in c.ask_in.new.places.items) _ _
 
 pub show_merging-requires-clause-rule : goal.show_merging-requires-clause-rule
 show_merging-requires-clause-rule g c = subst (λ (l : Log). MayStartMerge (printed l) c.args.at c.in-Ok-Some.task.seg) (sym c.in_ok-reserve.ensures.log)
