@@ -246,16 +246,23 @@ module _ {D : Type 0} {named names : List (List Name)} (r now : Run) (carries : 
     }
 
     -- where none did, or all tell the same
-    pub but_tasks : TellsAll old new → KeepsButTasks r now
-    but_tasks t = record {
-      rest =
-          let calls = calls_same t.both in
-          let jobs = jobs_same t.both in
-          let copies = copies_same t.both.count t.copies in
-          let sizes = t.sizes in
-          sym is
-          ∙ ((λ i. record { calls_left = calls i; cut = same i; sizes = sizes i; jobs = jobs i; copies = copies i; tasks = after; plans = next; names = names })
-          ∙ (λ i. record (was i) { tasks = (is i).tasks; plans = (is i).plans; names = (is i).names }));
+    tasks_rest : TellsAll old new → now.rest ≡ record r.rest { tasks = now.rest.tasks; plans = now.rest.plans; names = now.rest.names }
+    tasks_rest t =
+        let calls = calls_same t.both in
+        let jobs = jobs_same t.both in
+        let copies = copies_same t.both.count t.copies in
+        let sizes = t.sizes in
+        sym is
+        ∙ ((λ i. record { calls_left = calls i; cut = same i; sizes = sizes i; jobs = jobs i; copies = copies i; tasks = after; plans = next; names = names })
+        ∙ (λ i. record (was i) { tasks = (is i).tasks; plans = (is i).plans; names = (is i).names }))
+
+    pub but_tasks : next ≡ plans → names ≡ named → TellsAll old new → KeepsButTasks r now
+    but_tasks no_plan no_name t = record {
+      rest = tasks_rest t ∙ λ i. record r.rest {
+        tasks = now.rest.tasks;
+        plans = (sym (ap (λ (x : Rest). x.plans) is) ∙ (no_plan ∙ ap (λ (x : Rest). x.plans) was)) i;
+        names = (sym (ap (λ (x : Rest). x.names) is) ∙ (no_name ∙ ap (λ (x : Rest). x.names) was)) i;
+      };
     }
 
     -- where all but a copy at one do
@@ -272,17 +279,15 @@ module _ {D : Type 0} {named names : List (List Name)} (r now : Run) (carries : 
       own = ap (copies_but job) (merged_are n now new (sym (ap (λ (x : Rest). x.copies) is))) ∙ (t.own ∙ ap (copies_but job) (sym (merged_are n r old (sym (ap (λ (x : Rest). x.copies) was)))));
     }
 
--- where no task changed either
-pub tasks_kept : (old new : Run) → KeepsButTasks old new → new.rest.tasks ≡ old.rest.tasks → KeepsRest old new
-tasks_kept old new kept tasks = kept.rest ∙ λ i. record old.rest { tasks = tasks i; plans = new.rest.plans; names = new.rest.names }
-
 -- ---- by what came of the next step of a copy
 
 module _ {D : Type 0} {named names : List (List Name)} (r now : Run) (carries : List Bool) (cut later : Bool) (board after : Board) (plans next : List Plans) (old new : List (Option (NodePlace D)))
     (was : record { calls_left = calls_in carries old; cut = cut; sizes = sizes_in old; jobs = jobs_in old; copies = copies_in old; tasks = board; plans = plans; names = named } ≡ r.rest)
     (is : record { calls_left = calls_in carries new; cut = later; sizes = sizes_in new; jobs = jobs_in new; copies = copies_in new; tasks = after; plans = next; names = names } ≡ now.rest) (same : later ≡ cut) where
   pub all_kept : after ≡ board → TellsAll old new → KeepsRest r now
-  all_kept board_is t = tasks_kept r now (but_tasks r now carries cut later board after plans next old new was is same t) (sym (ap (λ (x : Rest). x.tasks) is) ∙ (board_is ∙ ap (λ (x : Rest). x.tasks) was))
+  all_kept board_is t =
+      tasks_rest r now carries cut later board after plans next old new was is same t
+      ∙ λ i. record r.rest { tasks = (sym (ap (λ (x : Rest). x.tasks) is) ∙ (board_is ∙ ap (λ (x : Rest). x.tasks) was)) i; plans = now.rest.plans; names = now.rest.names }
 
   pub but_ended : (at : At) (line : LineNo) (seg : SegNo) (by : Option At) (p n : NodeNo) (job : ℕ) (olds news : List (ℕ × ℕ)) (b met ledger : Sheet) (turn : CopyTurn) → StepsCopyTo at line seg by p n job olds news b met ledger board after turn
       → TellsButEnded n.0 job old new turn → KeepsButEnded n.0 job r now turn

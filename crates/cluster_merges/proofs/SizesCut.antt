@@ -166,19 +166,19 @@ module _ {D : Type 0} where
       m : Merging
       m = cut.m
 
-      abbrev held : List SegNo
+      held : List SegNo
       held = merge_inputs q.merges
 
-      abbrev rest : List SegNo
+      rest : List SegNo
       rest = merge_inputs (merges_without seg.0 q.merges)
 
-      abbrev g : ℕ
+      g : ℕ
       g = q.infos.generation.0
 
-      abbrev lives : List (List Bool)
+      lives : List (List Bool)
       lives = lives_of (inputs_in m.inputs (zip q.infos.segs q.segs))
 
-      abbrev turn : Turn
+      turn : Turn
       turn = merged_turn cut.merged cut.shown lives
 
       split : (r : SegRecord) → is_in held r ≡ (is_in m.inputs r || is_in rest r)

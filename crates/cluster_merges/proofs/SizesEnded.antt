@@ -161,7 +161,7 @@ module _ {D : Type 0} where
       held : merge_inputs (q.merges ++ starts.merging ∷ []) ≡ merge_inputs q.merges ++ inputs
       held = flat_map-append (λ (m : Merging). m.inputs) q.merges (starts.merging ∷ []) ∙ ap (λ (l : List SegNo). merge_inputs q.merges ++ l) (append-nil inputs)
 
-      abbrev rows : List SegRecord
+      rows : List SegRecord
       rows = neighbours starts.start.from factor q.infos.segs
 
       many : length rows ≡ factor

@@ -20,11 +20,12 @@ use Rattle.cluster_merges.specs.SentTold.{KeepsButSent, TellsSends}
 use Rattle.cluster_merges.specs.declared.precopies.CopyTurn.{CopyTurn}
 use Rattle.cluster_merges.specs.declared.precopies.CopyTurn.TheVariants.{Waits, Hands, Ends, Fails}
 
--- what callers are told beside the log is as before, but for the faults of disks and the names of their files, and for the tasks of merges
+-- what callers are told beside the log is as before, but for the tasks of merges
 pub record KeepsButTasks (old new : Run) : Type 0 where
-  pub rest : new.rest ≡ record old.rest { tasks = new.rest.tasks; plans = new.rest.plans; names = new.rest.names }
+  pub rest : new.rest ≡ record old.rest { tasks = new.rest.tasks }
 
--- The same, but where a merge starts, for the sizes of the primary's segments too: one that is merged is not to be chosen.
+-- The same, but for the faults of disks and the names of their files, and, where a merge starts, for the sizes of the primary's segments: one that is
+-- merged is not to be chosen.
 pub record KeepsButSizes (old new : Run) : Type 0 where
   pub rest : new.rest ≡ record old.rest { sizes = new.rest.sizes; tasks = new.rest.tasks; plans = new.rest.plans; names = new.rest.names }
   pub still : new.rest.tasks.rows ≡ old.rest.tasks.rows → KeepsRest old new
@@ -49,8 +50,8 @@ KeepsBuilt seg old new = KeepsBuiltBy (is_unwritten (open_merge seg.0 old.rest.t
 abbrev pub copies_but : ℕ → List MergedCopy → List MergedCopy
 copies_but job copies = filter (λ c. not (c.number == job)) copies
 
--- What callers are told beside the log is as before, but for the faults of disks, for the tasks of merges, and for the copy of this number at this
--- node.
+-- What callers are told beside the log is as before, but for the faults of disks and the names of their files, for the tasks of merges, and for the
+-- copy of this number at this node.
 pub record KeepsButCopies (n job : ℕ) (old new : Run) : Type 0 where
   pub rest : new.rest ≡ record old.rest { copies = new.rest.copies; tasks = new.rest.tasks; plans = new.rest.plans; names = new.rest.names }
   pub copies : TellsSameOfOthers merged_at n old new

@@ -41,7 +41,7 @@ pub record TellsSent (log : Log) (state : CopyState) (s : Sent) (files_were file
   pub files_are : files ≡ files_left (is_some (job_at s.node.0 log)) (generation_of (printed log)) files_were
 
 -- Copies of a merged segment were sent: callers are told of each, and of the nodes to which none was sent the same as before; and but for the
--- tasks of merges and the faults of disks all else is as before.
+-- tasks of merges and the faults of disks and the names of their files all else is as before.
 pub record KeepsButSent (spread : Spread) (old new : Run) : Type 0 where
   pub rest : new.rest ≡ record old.rest { jobs = new.rest.jobs; copies = new.rest.copies; tasks = new.rest.tasks; plans = new.rest.plans; names = new.rest.names }
   pub each : AllByRecursion (λ s. TellsSent old.log spread.state s (files_at s.node.0 old) (files_at s.node.0 new) (merged_at s.node.0 old) (merged_at s.node.0 new)) spread.left
