@@ -1,6 +1,6 @@
 -- What merge and drain lines do for them, and what calls of tasks do for whoever took the task, from the entries that they add.
 use Rattle.std.proofs.Common.{◌≡◌, ◌≢◌, ◌≤◌, ◌==◌, ◌⊎◌, ℕ, Bool, true, false, List, [], ◌∷◌, ◌++◌, Option, Some, None, is_some, map, refl, ap, ◌∙◌, sym, subst, inl, inr, true≢false}
-use Rattle.std.specs.Prelude.{is_none}
+use Rattle.std.specs.Prelude.{Result, Ok, Err, OnOk, is_none}
 use Rattle.nrt_base.specs.SegNumbers.{segments_of_generation}
 use Rattle.nrt_base.specs.declared.numbers.At.{At}
 use Rattle.nrt_base.specs.declared.numbers.LineNo.{LineNo}
@@ -21,11 +21,13 @@ use Rattle.history_book.specs.declared.inner.Inner.TheVariants.{MergeOut, MergeE
 use Rattle.history_book.specs.declared.inner.Inner.{Inner}
 use Rattle.history_book.specs.declared.inner.Step.{Step}
 use Rattle.history_book.specs.declared.inner.Step.TheVariants.{Merge as MergeStep, PreCopy as PreCopyStep, Cut as CutStep}
+use Rattle.script_serving.specs.declared.script.LineCommand.{LineCommand}
 use Rattle.script_serving.specs.declared.script.LineCommand.TheVariants.{Merge, Drain}
 use Rattle.script_serving.specs.Refusals.{when, may_be_refused}
 use Rattle.script_serving.specs.Serves.{First}
 use Rattle.merge_tasks.specs.declared.tasks.Task.{Task}
 use Rattle.merge_tasks.specs.declared.tasks.Sent.{Sent}
+use Rattle.history_book.specs.Chosen.{TakesFirst}
 use Rattle.history_book.specs.Told.{counted_for}
 use Rattle.merge_tasks.specs.Board.{step_of}
 use Rattle.cluster_state.specs.Given.{FileTask}
@@ -40,6 +42,7 @@ use Rattle.cluster_state.specs.declared.turn.Turn.{Turn}
 use Rattle.cluster_state.specs.declared.turn.Turn.TheVariants.{Work, Done, Busy}
 use Rattle.cluster_merges.specs.TaskCalls.{RefusesMerge, StartsOrRefuses, MergeLine, EndsCopyOnce, PrecopyTurns, LosesCopy, PartEnds, PartTurns, CutsOnce, CutTurns, DrainTurns}
 use Rattle.lane_threads.specs.Owes.{AddsByTask}
+use Rattle.lane_threads.specs.Firsts.{TellsFirst}
 use Rattle.lane_threads.proofs.WalkLemmas.{lane_self}
 use Rattle.cluster_core.specs.Doing.{Does, IsReplied, IsRepliedAtDone}
 use Rattle.cluster_core.specs.Tasks.{DoesTask}
@@ -51,6 +54,11 @@ use Rattle.cluster_core.proofs.MetDoes.{replied_by}
 when_some : (o : Option NodeNo) → o ≢ None → when (is_none o) NoPrimary ≡ None
 when_some None some = absurd (some refl)
 when_some (Some p) some = refl
+
+-- the factor of a line that merges
+abbrev factor_in : Option LineCommand → ℕ
+factor_in (Some (Merge factor)) = factor
+factor_in command = 0
 
 module _ (at : At) (factor : ℕ) (old new : Run) where
   -- a line that may be refused so, where a primary runs
@@ -68,7 +76,7 @@ module _ (at : At) (factor : ℕ) (old new : Run) where
         running = is.running;
         nodes = is.nodes;
         goes = record {
-          more = kept (MergeOut at.line starts.seg starts.inputs) ∷ shown at (Merging starts.seg) ∷ [];
+          more = kept (MergeOut at.line starts.seg starts.inputs old.rest.sizes) ∷ shown at (Merging starts.seg) ∷ [];
           log = is.log;
           adds = (
             inr refl,
@@ -107,6 +115,40 @@ module _ (at : At) (factor : ℕ) (old new : Run) where
       by_primary : (o : Option NodeNo) → primary_of (printed old.log) ≡ o → IsReplied at new
       by_primary None none = one_replied at old new (Refused NoPrimary) refl (line.vacant none).is
       by_primary (Some p) some = starts_replied line.cause (line.starts (λ none. true≢false (ap is_some (sym some ∙ none))))
+
+  -- and it takes the first range that is due
+  refused_first : (cause : Cause) → RefusesMerge at cause old new → TellsFirst (Merge factor) old.log new.log
+  refused_first cause refused = record { more = shown at (Refused cause) ∷ []; log = refused.is.log; first = (tt, tt) }
+
+  starts_first : (cause : Option Cause) → StartsOrRefuses at factor old new cause → TellsFirst (Merge factor) old.log new.log
+  starts_first None starts = record {
+    more = kept (MergeOut at.line starts.seg starts.inputs old.rest.sizes) ∷ shown at (Merging starts.seg) ∷ [];
+    log = starts.begins.is.log;
+    first = (
+      λ other asks. record {
+        inputs = starts.inputs;
+        sizes = old.rest.sizes;
+        out = refl;
+        takes = subst (λ (n : ℕ). TakesFirst n old.rest.sizes starts.inputs) (ap factor_in asks) starts.takes;
+      },
+      tt,
+    );
+  }
+  starts_first (Some Nothing) starts = refused_first Nothing starts.0
+  starts_first (Some NamesSpent) starts = refused_first NamesSpent starts.0
+  starts_first (Some cause) starts = absurd starts
+
+  merge_first : MergeLine at factor old new → TellsFirst (Merge factor) old.log new.log
+  merge_first line = by_primary (primary_of (printed old.log)) refl
+    where
+      by_primary : (o : Option NodeNo) → primary_of (printed old.log) ≡ o → TellsFirst (Merge factor) old.log new.log
+      by_primary None none = refused_first NoPrimary (line.vacant none)
+      by_primary (Some p) some = starts_first line.cause (line.starts (λ none. true≢false (ap is_some (sym some ∙ none))))
+
+-- in the terms of a call, whose cluster has this state
+pub on_merges : {X E : Type 0} (at : At) (factor : ℕ) (s r new : Run) (result : Result X E) → s ≡ r → OnOk result (MergeLine at factor s new) → OnOk result (TellsFirst (Merge factor) r.log new.log)
+on_merges at factor s r new (Ok y) view line = subst (λ (x : Run). TellsFirst (Merge factor) x.log new.log) view (merge_first at factor s new line)
+on_merges at factor s r new (Err e) view line = tt
 
 -- ---- drain lines
 

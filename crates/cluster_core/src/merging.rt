@@ -29,6 +29,7 @@ impl<D: FaultDir + Drop> Cluster<D> {
     ghost use Rattle.cluster_merges.specs.TaskCalls.{MergeLine, PrecopyTurns, PartTurns, CutTurns, DrainTurns};
     ghost use Rattle.cluster_core.specs.Doing.{Does, IsReplied, IsRepliedAtDone};
     ghost use Rattle.cluster_core.specs.Tasks.{DoesTask};
+    ghost use Rattle.lane_threads.specs.Firsts.{TellsFirst};
 
     /// Starts a merge. Its neighbours are chosen by their sizes; where none can be chosen, the line is refused.
     pub fn merge_start(&mut self, alloc: Global, at: At, factor: u32) -> Result<(), NoMemory>
@@ -41,6 +42,7 @@ impl<D: FaultDir + Drop> Cluster<D> {
 
         // what the line is owed
         ensures does { OnOk result (Does (Merge factor) at self.old self.new) }
+        ensures first { OnOk result (TellsFirst (Merge factor) self.old.log self.new.log) }
         ensures replied { OnOk result (IsReplied at self.new) }
     {
         merge_start(&mut self.state, alloc, at, factor)

@@ -131,8 +131,8 @@ module _ {D : Type 0} (cells : D → Cells) (size : ℕ) (log : Log) (at : At) (
       }
 
       -- the cluster shows the merge, and that its inputs are handed out
-      pub begun_shows : (number : LineNo) (inputs : List Shown) → ((m : ℕ) → (n == m) ≡ false → is_at (primary_of (printed log)) m ≡ false) → Shows cells (kept (MergeOut number seg inputs) ∷ shown at (MergingEvent seg) ∷ log) size new
-      begun_shows number inputs others = shows_kept cells size (shown at (MergingEvent seg) ∷ log) (MergeOut number seg inputs) new (λ a. refl) (shown_shows others)
+      pub begun_shows : (number : LineNo) (inputs : List Shown) (listed : List (Option ℕ)) → ((m : ℕ) → (n == m) ≡ false → is_at (primary_of (printed log)) m ≡ false) → Shows cells (kept (MergeOut number seg inputs listed) ∷ shown at (MergingEvent seg) ∷ log) size new
+      begun_shows number inputs listed others = shows_kept cells size (shown at (MergingEvent seg) ∷ log) (MergeOut number seg inputs listed) new (λ a. refl) (shown_shows others)
 
       -- ---- files
 
@@ -173,12 +173,12 @@ module _ {D : Type 0} (cells : D → Cells) (size : ℕ) (log : Log) (at : At) (
           by k (inr rest) = mine k (loose_behind p.merges m k rest)
 
       -- the files of the nodes are those that they had
-      pub begun_files : (number : LineNo) (inputs : List Shown) (m : Merging) → q.merges ≡ p.merges ++ m ∷ [] → m.task.seg.0 ≡ drawn_to p.infos → names_drawn (printed log) < segments_of_generation
+      pub begun_files : (number : LineNo) (inputs : List Shown) (listed : List (Option ℕ)) (m : Merging) → q.merges ≡ p.merges ++ m ∷ [] → m.task.seg.0 ≡ drawn_to p.infos → names_drawn (printed log) < segments_of_generation
           → KeepsHeldBytes cells p q → HoldsNoNew p q → DrawsOnly p q → ((m : ℕ) → (n == m) ≡ false → is_at (primary_of (printed log)) m ≡ false)
-          → FilesShow cells log size old → FilesShow cells (kept (MergeOut number seg inputs) ∷ shown at (MergingEvent seg) ∷ log) size new
-      begun_files number inputs m merges drawn low stays no_new draws others files =
-          files_still cells size (shown at (MergingEvent seg) ∷ log) (kept (MergeOut number seg inputs) ∷ shown at (MergingEvent seg) ∷ log) new (grows_none (printed (shown at (MergingEvent seg) ∷ log))) (λ name bytes out. out)
-          (λ k other. same_inner (shown at (MergingEvent seg) ∷ log) (MergeOut number seg inputs) k refl) (λ k. commits_alone (printed (shown at (MergingEvent seg) ∷ log)) k) (shown_shows others)
+          → FilesShow cells log size old → FilesShow cells (kept (MergeOut number seg inputs listed) ∷ shown at (MergingEvent seg) ∷ log) size new
+      begun_files number inputs listed m merges drawn low stays no_new draws others files =
+          files_still cells size (shown at (MergingEvent seg) ∷ log) (kept (MergeOut number seg inputs listed) ∷ shown at (MergingEvent seg) ∷ log) new (grows_none (printed (shown at (MergingEvent seg) ∷ log))) (λ name bytes out. out)
+          (λ k other. same_inner (shown at (MergingEvent seg) ∷ log) (MergeOut number seg inputs listed) k refl) (λ k. commits_alone (printed (shown at (MergingEvent seg) ∷ log)) k) (shown_shows others)
           (files_one cells size log (shown at (MergingEvent seg) ∷ log) old new n (record { node = Primary q; held = held }) (record { node = Primary p; held = held }) (grows_shown size (printed log) at (MergingEvent seg) legal rule) (λ name bytes out. out)
           (begun_holds m merges drawn low (some_at (PlaceShows cells log n) (place_of old n) (record { node = Primary p; held = held }) there (shows.each n node)).node_shows)
           (λ k other. same_shown size log at k legal turns other (MergingEvent seg) rule (fresh_turn (printed log) at (MergingEvent seg) fresh tt) refl)

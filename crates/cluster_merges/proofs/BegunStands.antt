@@ -117,7 +117,7 @@ sent_beside rows row n running fresh sent = sent_still rows (rows ++ row ∷ [])
         clash : ◌≡◌ {A = Option Spread} None (Some s) → ⊥
         clash e = absurd (cc)
 
-module _ {D : Type 0} (cells : D → Cells) (size : ℕ) (log : Log) (cut : Bool) (board new_board : Board) (at : At) (seg : SegNo) (task : MergeTask) (m : Merging) (n : ℕ) (p q : PrimaryParts D) (held : Vec HeldTicket Global) (old new : List (Option (NodePlace D)))
+module _ {D : Type 0} (cells : D → Cells) (size : ℕ) (log : Log) (cut : Bool) (board new_board : Board) (at : At) (seg : SegNo) (task : MergeTask) (listed : List (Option ℕ)) (m : Merging) (n : ℕ) (p q : PrimaryParts D) (held : Vec HeldTicket Global) (old new : List (Option (NodePlace D)))
     (legal : IsLegalPast size (printed log)) (names : names_drawn (printed log) < segments_of_generation) (next : seg.0 ≡ next_name (printed log)) (of : task ≡ merge_task seg task.inputs) (task_is : m.task ≡ task) (unmade : m.merged ≡ None)
     (fit : IsFitTask task) (is : HasStarted p q) (merges : q.merges ≡ p.merges ++ m ∷ [])
     (moves : MovesOne n (record { node = Primary q; held = held }) old new) (node : IsNode size n) (there : place_of old n ≡ Some (record { node = Primary p; held = held })) (shows : Shows cells log size old)
@@ -128,7 +128,7 @@ module _ {D : Type 0} (cells : D → Cells) (size : ℕ) (log : Log) (cut : Bool
   row = record { seg = seg; line = at.line; spread = None }
 
   abbrev now : Log
-  now = kept (MergeOut at.line seg task.inputs) ∷ shown at (MergingEvent seg) ∷ log
+  now = kept (MergeOut at.line seg task.inputs listed) ∷ shown at (MergingEvent seg) ∷ log
 
   unnoted : inputs_out seg.0 log ≡ None
   unnoted = ap (λ (k : ℕ). inputs_out k log) next ∙ next_unnoted size log board legal names was.tasks
@@ -141,7 +141,7 @@ module _ {D : Type 0} (cells : D → Cells) (size : ℕ) (log : Log) (cut : Bool
 
   -- what was handed out before stays
   stays : InputsStay log now
-  stays k inputs there = first_stays (inputs_out k log) (inputs_by k (MergeOut at.line seg task.inputs)) inputs there
+  stays k inputs there = first_stays (inputs_out k log) (inputs_by k (MergeOut at.line seg task.inputs listed)) inputs there
 
   out : inputs_out seg.0 now ≡ Some task.inputs
   out = ap (λ (t : Bool). or_first (inputs_out seg.0 log) (if t then Some task.inputs else None)) (eq-eqb seg.0 seg.0 refl) ∙ ap (λ (o : Option (List Shown)). or_first o (Some task.inputs)) unnoted
@@ -186,7 +186,7 @@ module _ {D : Type 0} (cells : D → Cells) (size : ℕ) (log : Log) (cut : Bool
   -- THE THIRD PART of what is true of a cluster
   pub begun_stands : MergesStand now cut size new_board new
   begun_stands = record {
-    tasks = tasks_begun size log board new_board at seg task.inputs fresh unnoted names rows posted counts was.tasks;
+    tasks = tasks_begun size log board new_board at seg task.inputs listed fresh unnoted names rows posted counts was.tasks;
     fit = subst (λ (l : List Posted). All (λ p. IsFitKind p.kind) l) (sym posted) (All-push (λ (z : Posted). IsFitKind z.kind) board.posted (posted_merge seg at.line (merge_task seg task.inputs)) was.fit (subst IsFitTask of fit));
     each = one_each {P = λ k z. PlaceShows cells log k z × NodeMerges log cut (λ s. jobs_like old s size) board.rows k z.node} {Q = λ k z. NodeMerges now cut (λ s. jobs_like new s size) new_board.rows k z.node} size n (record { node = Primary q; held = held }) old new moves
         (λ k within. some_both (place_of old k) (shows.each k within) (was.each k within) (λ z a b. (a, b)))

@@ -12,6 +12,7 @@ mod CutStands
 mod DueFiles
 mod EndedCopies
 pub mod FilesMore
+mod FirstSizes
 mod GivenMerges
 pub mod InsideSteps
 mod KeptMerges

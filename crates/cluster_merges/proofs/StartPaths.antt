@@ -1,18 +1,16 @@
 -- A merge that starts, and one that does not, in the terms of the call.
-use Rattle.std.proofs.Common.{◌≡◌, ◌≢◌, ◌≤◌, ◌<◌, ◌+◌, ◌==◌, ◌++◌, ℕ, Bool, true, false, List, [], ◌∷◌, length, drop, map, Some, None, Option, Ok, Err, Result, refl, ap, ◌∙◌, sym, subst, arith}
+use Rattle.std.proofs.Common.{◌≡◌, ◌≢◌, ◌≤◌, ◌<◌, ◌+◌, ◌==◌, ◌++◌, ℕ, Bool, true, false, List, [], ◌∷◌, take, drop, map, Some, None, Option, Ok, Err, Result, refl, ap, ◌∙◌, sym, subst, arith}
 use Rattle.std.specs.Prelude.{IfSome, IfOk}
 use Rattle.std.proofs.lemmas.Bool.{eq-eqb}
-use Rattle.std.proofs.lemmas.List.{length-drop, length-map, length-take-le}
-use Rattle.std.proofs.lemmas.Slice.Zip.{AllZip-long}
+use Rattle.std.proofs.lemmas.List.{length-map}
 use Rattle.nrt_base.specs.SegNumbers.{segment_number, segments_of_generation}
 use Rattle.nrt_base.specs.declared.numbers.At.{At}
 use Rattle.nrt_base.specs.declared.numbers.NodeNo.{NodeNo}
 use Rattle.nrt_base.specs.declared.numbers.SegNo.{SegNo}
 use Rattle.disk_model.specs.Disk.{Name, Cells, reads_of}
 use Rattle.seg_reader.specs.Shown.{Shown}
-use Rattle.seg_reader.specs.Stands.{IsSegmentIn}
 use Rattle.seg_merge.specs.declared.task.MergeTask.{MergeTask}
-use Rattle.merge_choice.specs.Choice.{IsFirstRange, HasNoRange}
+use Rattle.merge_choice.specs.Choice.{IsClass, IsFirstRange, HasNoRange}
 use Rattle.script_serving.specs.Refusals.{put_publishes}
 use Rattle.segment_steps.specs.Starting.{size_by}
 use Rattle.history_rules.specs.declared.cause.Cause.{Cause}
@@ -24,6 +22,7 @@ use Rattle.history_rules.specs.Rules.{MayStartMerge}
 use Rattle.history_rules.specs.Legal.{IsLegalPast}
 use Rattle.history_book.specs.Log.{Log, printed, shown, kept}
 use Rattle.history_book.specs.declared.inner.Inner.TheVariants.{MergeOut}
+use Rattle.history_book.specs.Chosen.{input_sizes, TakesFirst}
 use Rattle.history_book.specs.Laws.{IsFresh}
 use Rattle.history_book.specs.Turns.{AreInTurn}
 use Rattle.merge_tasks.specs.Merging.{Sheet, next_name}
@@ -56,12 +55,13 @@ use Rattle.cluster_state.proofs.Drawn.{grows_none}
 use Rattle.cluster_state.proofs.Naming.{holds_same}
 use Rattle.cluster_state.proofs.MergingStill.{primary_keeps, one_keeps, stand_same}
 use Rattle.node_merges.specs.MergeChanges.{AsksMerge}
-use Rattle.node_merges.specs.MergePlaces.{MovesPrimary}
+use Rattle.node_merges.specs.MergePlaces.{MovesPrimary, AreSizesAt}
 use Rattle.cluster_merges.specs.MergePaths.{BeginsMerge, StartsMergeFor}
 use Rattle.cluster_merges.specs.MergeSizes.{without_range}
 use Rattle.cluster_merges.specs.Running.{AllShown}
 use Rattle.cluster_merges.proofs.BegunShows.{HasStarted, begun_shows, begun_files}
 use Rattle.cluster_merges.proofs.BegunStands.{begun_stands}
+use Rattle.cluster_merges.proofs.FirstSizes.{range_sizes}
 use Rattle.cluster_merges.proofs.InsideSteps.{all_is}
 use Rattle.cluster_merges.proofs.SizesEnded.{started_sizes, sizes_moved}
 use Rattle.cluster_merges.proofs.TaskPaths.{as_before}
@@ -185,13 +185,17 @@ module _ {D : Type 0} (cells : D → Cells) (r : Run) (old new : List (Option (N
     few : factor ≤ put_publishes (printed b0.log)
     few = let within = starts.start.first.is.within in let puts = shows.writer.few in let count = length-map q.infos.segs (size_by (merge_inputs q.merges)) in omega (arith, within, puts, count)
 
-    many : length task.inputs ≡ factor
-    many =
-        let within = starts.start.first.is.within in
+    taken : take factor (drop starts.start.from (merge_sizes q)) ≡ input_sizes task.inputs
+    taken =
+        let range = starts.start.first.is in
+        let within = range.within in
         let rows = length-map q.infos.segs (size_by (merge_inputs q.merges)) in
-        let segs = AllZip-long (IsSegmentIn (reads_of (cells q.dir))) q.infos.segs q.segs shows.whole.writer.stands.each in
-        let rest = length-drop starts.start.from q.segs in
-        ap length starts.start.segs_are ∙ length-take-le factor (drop starts.start.from q.segs) (omega (arith, within, rows, segs, rest))
+        range_sizes (reads_of (cells q.dir)) (merge_inputs q.merges) (λ size. IsClass factor size range.class) starts.start.from factor q.infos.segs q.segs shows.whole.writer.stands.each (omega (arith, within, rows)) range.each
+        ∙ ap input_sizes (sym starts.start.segs_are)
+
+    -- the merge takes the first range by the sizes that callers are told
+    takes : TakesFirst factor r.rest.sizes task.inputs
+    takes = subst (λ (l : List (Option ℕ)). TakesFirst factor l task.inputs) (sym sizes) (record { from = starts.start.from; first = starts.start.first; taken = taken })
 
     pub merging_rule : MayStartMerge (printed b0.log) at task.seg
     merging_rule = record { running = λ none. some_none (sym primary0 ∙ none); next = next; unspent = names; spared = fresh.spared }
@@ -199,14 +203,17 @@ module _ {D : Type 0} (cells : D → Cells) (r : Run) (old new : List (Option (N
         some_none : Some p ≡ None → ⊥
         some_none e = absurd (cc)
 
-    module _ (b2 b3 : Sheet) (inputs : List Shown) (after : Board) (shared : inputs ≡ task.inputs) (e2 : b2.log ≡ shown at (MergingEvent task.seg) ∷ b1.log) (n2 : b2.nodes ≡ b1.nodes) (c2 : b2.cut ≡ b1.cut)
-        (e3 : b3.log ≡ kept (MergeOut at.line task.seg inputs) ∷ b2.log) (n3 : b3.nodes ≡ b2.nodes) (c3 : b3.cut ≡ b2.cut)
+    module _ (b2 b3 : Sheet) (inputs : List Shown) (listed : List (Option ℕ)) (after : Board) (shared : inputs ≡ task.inputs) (sized : AreSizesAt (place_of old p.0) listed) (e2 : b2.log ≡ shown at (MergingEvent task.seg) ∷ b1.log) (n2 : b2.nodes ≡ b1.nodes) (c2 : b2.cut ≡ b1.cut)
+        (e3 : b3.log ≡ kept (MergeOut at.line task.seg inputs listed) ∷ b2.log) (n3 : b3.nodes ≡ b2.nodes) (c3 : b3.cut ≡ b2.cut)
         (rows : after.rows ≡ board.rows ++ record { seg = task.seg; line = at.line; spread = None } ∷ []) (posted : after.posted ≡ board.posted ++ posted_merge task.seg at.line task ∷ []) (counts : after.counts ≡ board.counts) where
+      listed_is : listed ≡ merge_sizes q
+      listed_is = subst (λ (o : Option (NodePlace D)). AreSizesAt o listed) asked.at.there sized
+
       abbrev now : Log
-      now = kept (MergeOut at.line task.seg task.inputs) ∷ shown at (MergingEvent task.seg) ∷ b0.log
+      now = kept (MergeOut at.line task.seg task.inputs (merge_sizes q)) ∷ shown at (MergingEvent task.seg) ∷ b0.log
 
       log_now : b3.log ≡ now
-      log_now = e3 ∙ λ i. kept (MergeOut at.line task.seg (shared i)) ∷ (e2 ∙ ap (λ (l : Log). shown at (MergingEvent task.seg) ∷ l) e1) i
+      log_now = e3 ∙ λ i. kept (MergeOut at.line task.seg (shared i) (listed_is i)) ∷ (e2 ∙ ap (λ (l : Log). shown at (MergingEvent task.seg) ∷ l) e1) i
 
       told : after.posted ≡ board.posted ++ posted_merge task.seg at.line (merge_task task.seg task.inputs) ∷ []
       told = posted ∙ ap (λ (t : MergeTask). board.posted ++ posted_merge task.seg at.line t ∷ []) of
@@ -216,10 +223,10 @@ module _ {D : Type 0} (cells : D → Cells) (r : Run) (old new : List (Option (N
 
       pub started_all : AllShown cells b3 after new
       started_all = all_is cells sheet b3 after new log_now (n3 ∙ (n2 ∙ n1)) (c3 ∙ (c2 ∙ c1)) (
-        begun_shows cells b0.nodes b0.log at task.seg legal turns merging_rule fresh p.0 q s started asked.step.whole asked.at.held old new asked.moves node0 asked.at.there was.0 at.line task.inputs others,
-        begun_files cells b0.nodes b0.log at task.seg legal turns merging_rule fresh p.0 q s started asked.step.whole asked.at.held old new asked.moves node0 asked.at.there was.0 at.line task.inputs starts.merging merges
+        begun_shows cells b0.nodes b0.log at task.seg legal turns merging_rule fresh p.0 q s started asked.step.whole asked.at.held old new asked.moves node0 asked.at.there was.0 at.line task.inputs (merge_sizes q) others,
+        begun_files cells b0.nodes b0.log at task.seg legal turns merging_rule fresh p.0 q s started asked.step.whole asked.at.held old new asked.moves node0 asked.at.there was.0 at.line task.inputs (merge_sizes q) starts.merging merges
             (ap (λ (t : MergeTask). t.seg.0) starts.task_is ∙ drawn) names asked.step.stays asked.step.no_new asked.step.drawn others was.1,
-        begun_stands cells b0.nodes b0.log b0.cut board after at task.seg task starts.merging p.0 q s asked.at.held old new legal names next of starts.task_is starts.unmade fit started merges
+        begun_stands cells b0.nodes b0.log b0.cut board after at task.seg task (merge_sizes q) starts.merging p.0 q s asked.at.held old new legal names next of starts.task_is starts.unmade fit started merges
             asked.moves node0 asked.at.there was.0 here others rows told counts was.2,
       )
 
@@ -235,14 +242,12 @@ module _ {D : Type 0} (cells : D → Cells) (r : Run) (old new : List (Option (N
         seg = task.seg;
         inputs = task.inputs;
         named = subst (λ (x : Run). task.seg.0 ≡ next_name (printed x.log)) view next;
-        from = starts.start.from;
-        first = subst (λ (l : List (Option ℕ)). IsFirstRange factor l starts.start.from) (sym sizes) starts.start.first;
-        many = many;
+        takes = takes;
         unspent = subst (λ (x : Run). names_drawn (printed x.log) < segments_of_generation) view names;
         few = subst (λ (x : Run). factor ≤ put_publishes (printed x.log)) view few;
         held = held_sizes;
         begins = record {
-          is = record { running = refl; nodes = n3 ∙ (n2 ∙ (n1 ∙ ap (λ (x : Run). x.nodes) view)); log = log_now ∙ ap (λ (x : Run). kept (MergeOut at.line task.seg task.inputs) ∷ shown at (MergingEvent task.seg) ∷ x.log) view };
+          is = record { running = refl; nodes = n3 ∙ (n2 ∙ (n1 ∙ ap (λ (x : Run). x.nodes) view)); log = log_now ∙ (ap (λ (l : List (Option ℕ)). kept (MergeOut at.line task.seg task.inputs l) ∷ shown at (MergingEvent task.seg) ∷ b0.log) (sym sizes) ∙ ap (λ (x : Run). kept (MergeOut at.line task.seg task.inputs r.rest.sizes) ∷ shown at (MergingEvent task.seg) ∷ x.log) view) };
           rows_are = rows ∙ ap (λ (x : Run). x.rest.tasks.rows ++ record { seg = task.seg; line = at.line; spread = None } ∷ []) view;
           posted_are = told ∙ ap (λ (x : Run). x.rest.tasks.posted ++ posted_merge task.seg at.line (merge_task task.seg task.inputs) ∷ []) view;
         };

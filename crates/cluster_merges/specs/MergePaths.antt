@@ -1,5 +1,5 @@
 -- What the steps of a merge make of a cluster.
-use Rattle.std.specs.Prelude.{ℕ, ◌≡◌, ◌≤◌, ◌<◌, ◌⊎◌, ◌∷◌, ◌++◌, [], List, length, map, Bool, true, false, Option, Some, None}
+use Rattle.std.specs.Prelude.{ℕ, ◌≡◌, ◌≤◌, ◌<◌, ◌⊎◌, ◌∷◌, ◌++◌, [], List, map, Bool, true, false, Option, Some, None}
 use Rattle.nrt_base.specs.SegNumbers.{segments_of_generation}
 use Rattle.nrt_base.specs.declared.numbers.At.{At}
 use Rattle.nrt_base.specs.declared.numbers.LineNo.{LineNo}
@@ -20,6 +20,7 @@ use Rattle.history_rules.specs.Points.{names_drawn}
 use Rattle.history_book.specs.declared.inner.Inner.TheVariants.{MergeOut, MergeEnd, JobBegun, FileOut, TaskOut, TaskEnd}
 use Rattle.history_book.specs.declared.inner.Step.{Step}
 use Rattle.history_book.specs.declared.inner.Step.TheVariants.{Merge as MergeStep, PreCopy as PreCopyStep, Cut as CutStep}
+use Rattle.history_book.specs.Chosen.{TakesFirst}
 use Rattle.history_book.specs.Log.{Log, printed, shown, kept}
 use Rattle.merge_tasks.specs.Merging.{merge_on, cut_after, next_name}
 use Rattle.merge_tasks.specs.Fates.{fate_due}
@@ -48,18 +49,17 @@ abbrev pub IsAsBefore : Run → Run → Type 0
 IsAsBefore old new = IsBoard old new old.log old.rest.tasks.rows old.rest.tasks.posted
 
 -- A merge starts into the next segment, of as many neighbours as the factor, the first that can be chosen, and a name was left for it: its inputs stand
--- in the log, and the task to build it is posted; they have no size any more. There are no more of them than publishes had puts.
+-- in the log, with the sizes of which they were chosen, and the task to build it is posted; they have no size any more. There are no more of them
+-- than publishes had puts.
 pub record BeginsMerge (at : At) (factor : ℕ) (old new : Run) : Type 0 where
   pub seg : SegNo
   pub inputs : List Shown
   pub named : seg.0 ≡ next_name (printed old.log)
-  pub from : ℕ
-  pub first : IsFirstRange factor old.rest.sizes from
-  pub many : length inputs ≡ factor
+  pub takes : TakesFirst factor old.rest.sizes inputs
   pub unspent : names_drawn (printed old.log) < segments_of_generation
   pub few : factor ≤ put_publishes (printed old.log)
-  pub held : new.rest.sizes ≡ without_range from factor old.rest.sizes
-  pub begins : IsBoard old new (kept (MergeOut at.line seg inputs) ∷ shown at (Merging seg) ∷ old.log)
+  pub held : new.rest.sizes ≡ without_range takes.from factor old.rest.sizes
+  pub begins : IsBoard old new (kept (MergeOut at.line seg inputs old.rest.sizes) ∷ shown at (Merging seg) ∷ old.log)
       (old.rest.tasks.rows ++ record { seg = seg; line = at.line; spread = None } ∷ []) (old.rest.tasks.posted ++ posted_merge seg at.line (merge_task seg inputs) ∷ [])
 
 -- A merge starts; or no inputs can be chosen; or some can, and the generation has drawn all its names.

@@ -13,7 +13,7 @@ use cluster_state::ClusterState;
 use disk_model::FaultDir;
 use history_book::Inner;
 use history_rules::Cause;
-use node_merges::ask_in;
+use node_merges::{ask_in, sizes_in};
 use nrt_base::{At, NoMemory, NodeNo, Share};
 use std::alloc::{AllocError, Global};
 
@@ -53,6 +53,7 @@ pub fn start_merge<D: FaultDir + Drop>(
     book.is_legal();
     cluster.ended = true;
     cluster.ledger.reserve(2)?;
+    let sizes = sizes_in(alloc, &cluster.places, p)?;
     let task = match ask_in(alloc, &mut cluster.places, p, factor) {
         Ok(Some(task)) => task,
         Ok(None) => {
@@ -70,7 +71,12 @@ pub fn start_merge<D: FaultDir + Drop>(
     let inputs = task.inputs.share(alloc)?;
     cluster.tasks.begin(seg, line, task)?;
     cluster.ledger.show_merging(at, seg);
-    cluster.ledger.keep(Inner::MergeOut { line, seg, inputs });
+    cluster.ledger.keep(Inner::MergeOut {
+        line,
+        seg,
+        inputs,
+        sizes,
+    });
     cluster.ended = false;
     Ok(None)
 }

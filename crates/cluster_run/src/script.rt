@@ -72,8 +72,8 @@ fn new_site(alloc: Global, script: &Script) -> Result<Site<MemDir>, NoMemory>
 /// Runs a script on a new cluster, its lanes in threads of their own, and answers the cluster as the script leaves it. Where the script has
 /// `log`, the site has one, which a promotion replays. `Err` is want of memory alone.
 ///
-/// Whatever the lanes' threads do in between, the history is legal and serves the script, and each printed entry tells what is so of
-/// inner work, an answer `none` to a publish too.
+/// Whatever the lanes' threads do in between, the history is legal and serves the script, each printed entry tells what is so of inner
+/// work, an answer `none` to a publish too, and each merge takes the first range that is due.
 pub fn run_script<R: Threads + Wait + Sync, G: Gate + Sync>(
     rt: &R,
     alloc: Global,

@@ -19,7 +19,7 @@ use Rattle.script_serving.specs.Refusals.{when, without_primary}
 use Rattle.script_serving.specs.Replays.{logged_operations}
 use Rattle.lane_threads.specs.Owes.{GoesByLine, FaultsFit}
 use Rattle.lane_threads.proofs.WalkLemmas.{call_faults}
-use Rattle.lane_threads.proofs.IdleLemmas.{is_publish, apart_none}
+use Rattle.lane_threads.proofs.IdleLemmas.{is_publish, is_merge, apart_none, apart_first}
 use Rattle.trans_log.specs.declared.record.LogOp.{LogOp}
 use Rattle.trans_log.specs.declared.log.TransLog.{TransLog}
 use Rattle.trans_log.specs.declared.log.LogFault.{LogFault}
@@ -106,6 +106,11 @@ writing_apart (PutOp doc) = refl
 writing_apart (DeleteOp key) = refl
 writing_apart (DropOp word) = refl
 
+writing_unmerged : (op : Op) → is_merge (writing_command op) ≡ false
+writing_unmerged (PutOp doc) = refl
+writing_unmerged (DeleteOp key) = refl
+writing_unmerged (DropOp word) = refl
+
 module _ {D : Type 0} (cells : D → Cells) (plans : D → Option Plans) (old new : Run) (log later : Option (TransLog D)) (s : SiteRun) (op : Op) (at : At) (k : ℕ) (view : site_of old log ≡ s) (running : s.run.ended ≡ false) (was : SiteStands cells plans old log) where
   runs : old.ended ≡ false
   runs = runs_was old log s view running
@@ -160,7 +165,7 @@ module _ {D : Type 0} (cells : D → Cells) (plans : D → Option Plans) (old ne
 
   -- what the line is owed
   pub accept_does : {X E : Type 0} (r : Result X E) → is_some (records_of later) ≡ is_some (records_of log) → OnOk r (Does (writing_command op) at old new) → OnOk r (DoesAtSite (writing_command op) at s (site_of new later))
-  accept_does (Ok x) flag does = subst (λ (z : SiteRun). DoesAtSite (writing_command op) at z (site_of new later)) view (record { running = does.running; nodes = does.nodes; logged = flag; goes = goes_on does; none = apart_none (writing_command op) at old.log new.log (writing_apart op) does.goes })
+  accept_does (Ok x) flag does = subst (λ (z : SiteRun). DoesAtSite (writing_command op) at z (site_of new later)) view (record { running = does.running; nodes = does.nodes; logged = flag; goes = goes_on does; none = apart_none (writing_command op) at old.log new.log (writing_apart op) does.goes; first = apart_first (writing_command op) at old.log new.log (writing_unmerged op) does.goes })
   accept_does (Err e) flag does = tt
 
 -- ---- what the log has behind it

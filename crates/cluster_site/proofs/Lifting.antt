@@ -13,14 +13,14 @@ use Rattle.history_rules.specs.declared.entry.Event.TheVariants.{Accepted, Copyi
 use Rattle.history_rules.specs.Nodes.{Past}
 use Rattle.history_rules.specs.Lines.{last_of_line}
 use Rattle.script_serving.specs.declared.script.LineCommand.{LineCommand}
-use Rattle.script_serving.specs.declared.script.LineCommand.TheVariants.{Put, Delete, Drop, Publish, Copy, Promote}
+use Rattle.script_serving.specs.declared.script.LineCommand.TheVariants.{Put, Delete, Drop, Publish, Merge, Copy, Promote}
 use Rattle.script_serving.specs.Refusals.{refusal}
 use Rattle.script_serving.specs.Replays.{logged_operations, replay_due}
 use Rattle.script_serving.specs.Serves.{Begins, First, Follows, Suits}
 use Rattle.history_book.specs.declared.inner.Mark.TheVariants.{Shown, TaskFault, Kept}
 use Rattle.history_book.specs.Log.{Log, printed, FollowsMerging}
 use Rattle.lane_threads.specs.Owes.{SuitsOrFault, SuitsOrReplays, AddsEntries, GoesByLine, AddsByTask, GoesByTask}
-use Rattle.lane_threads.proofs.IdleLemmas.{is_publish}
+use Rattle.lane_threads.proofs.IdleLemmas.{is_publish, is_merge}
 use Rattle.trans_log.specs.declared.record.LogOp.{LogOp}
 use Rattle.cluster_site.specs.Sites.{AreLogged, IsInStep}
 
@@ -37,18 +37,24 @@ is_unlogged (Drop word) = false
 is_unlogged (Promote n force) = false
 is_unlogged command = true
 
--- nor does it publish
+-- nor does it publish or merge
 abbrev pub is_quiet : LineCommand → Bool
 is_quiet Publish = false
+is_quiet (Merge factor) = false
 is_quiet command = is_unlogged command
 
 pub quiet_unlogged : (command : LineCommand) → is_quiet command ≡ true → is_unlogged command ≡ true
 quiet_unlogged Publish quiet = refl
+quiet_unlogged (Merge factor) quiet = refl
 quiet_unlogged command quiet = quiet
 
 pub quiet_apart : (command : LineCommand) → is_quiet command ≡ true → is_publish command ≡ false
 quiet_apart Publish quiet = absurd (false≢true quiet)
 quiet_apart command quiet = refl
+
+pub quiet_unmerged : (command : LineCommand) → is_quiet command ≡ true → is_merge command ≡ false
+quiet_unmerged (Merge factor) quiet = absurd (false≢true quiet)
+quiet_unmerged command quiet = refl
 
 unlogged_unpromoted : (command : LineCommand) → is_unlogged command ≡ true → is_promotion command ≡ false
 unlogged_unpromoted (Promote n force) quiet = absurd (false≢true quiet)

@@ -26,7 +26,7 @@ use Rattle.script_serving.specs.Replays.{logged_operations, due}
 use Rattle.script_serving.specs.Serves.{First}
 use Rattle.lane_threads.specs.Owes.{SuitsOrFault, SuitsOrReplays, AddsEntries, GoesByLine}
 use Rattle.lane_threads.proofs.WalkLemmas.{call_faults, log_then}
-use Rattle.lane_threads.proofs.IdleLemmas.{apart_none}
+use Rattle.lane_threads.proofs.IdleLemmas.{apart_none, apart_first}
 use Rattle.trans_log.specs.declared.record.LogOp.{LogOp}
 use Rattle.trans_log.specs.declared.log.TransLog.{TransLog}
 use Rattle.cluster_state.specs.Run.{Run, IsNow, IsEnded}
@@ -239,7 +239,7 @@ module _ {D : Type 0} (cells : D → Cells) (plans : D → Option Plans) (n : No
         → OnOk r (DoesAtSite (Promote n force) at s (site_of new later))
     promoted_does (Ok x) later is goes_on done =
         subst (λ (z : SiteRun). DoesAtSite (Promote n force) at z (site_of new later)) view
-        (record { running = goes_on; nodes = same ∙ now.nodes; logged = ap (λ (l : Option (TransLog D)). is_some (records_of l)) is; goes = (whole done).goes; none = apart_none (Promote n force) at old.log new.log refl (whole done).goes })
+        (record { running = goes_on; nodes = same ∙ now.nodes; logged = ap (λ (l : Option (TransLog D)). is_some (records_of l)) is; goes = (whole done).goes; none = apart_none (Promote n force) at old.log new.log refl (whole done).goes; first = apart_first (Promote n force) at old.log new.log refl (whole done).goes })
     promoted_does (Err e) later is goes_on done = tt
 
     pub promoted_replied : {X E : Type 0} (r : Result X E) → OnOk r (AcceptsLacking at mid.log new.log (records_of log)) → OnOk r (IsReplied at new)

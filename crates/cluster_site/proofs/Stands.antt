@@ -10,15 +10,16 @@ use Rattle.script_serving.specs.declared.script.LineCommand.{LineCommand}
 use Rattle.lane_threads.specs.Owes.{FaultsFit, IsSettledLog}
 use Rattle.lane_threads.specs.declared.run.Setup.{Setup}
 use Rattle.lane_threads.specs.Idle.{TellsNone}
+use Rattle.lane_threads.specs.Firsts.{TellsFirst}
 use Rattle.lane_threads.proofs.WalkLemmas.{call_faults, task_faults}
-use Rattle.lane_threads.proofs.IdleLemmas.{apart_none}
+use Rattle.lane_threads.proofs.IdleLemmas.{apart_none, apart_first}
 use Rattle.trans_log.specs.declared.record.LogOp.{LogOp}
 use Rattle.trans_log.specs.declared.log.TransLog.{TransLog}
 use Rattle.cluster_state.specs.Run.{Run, IsEnded}
 use Rattle.cluster_core.specs.Doing.{Does}
 use Rattle.cluster_core.specs.Tasks.{DoesTask}
 use Rattle.cluster_site.specs.Sites.{SiteRun, SiteStands, IsInStep, DoesAtSite, DoesTaskAtSite, records_of, is_logged}
-use Rattle.cluster_site.proofs.Lifting.{is_unlogged, is_quiet, quiet_unlogged, quiet_apart, quiet_goes, task_goes}
+use Rattle.cluster_site.proofs.Lifting.{is_unlogged, is_quiet, quiet_unlogged, quiet_apart, quiet_unmerged, quiet_goes, task_goes}
 
 -- a site with this cluster and this log
 abbrev pub site_of : {D : Type 0} → Run → Option (TransLog D) → SiteRun
@@ -45,13 +46,14 @@ module _ {D : Type 0} (cells : D → Cells) (plans : D → Option Plans) (old ne
         let lifted = quiet_goes (records_of log) command at old.log new.log unlogged (was.in_step runs) does.goes in
         record { faults = call_faults (is_some (records_of log)) command at old.log new.log was.faults lifted.0; in_step = λ _. lifted.1; stands = λ _. was.stands runs }
 
-    done_there : TellsNone command old.log new.log → Does command at old new → DoesAtSite command at (site_of old log) (site_of new log)
-    done_there none does = record {
+    done_there : TellsNone command old.log new.log → TellsFirst command old.log new.log → Does command at old new → DoesAtSite command at (site_of old log) (site_of new log)
+    done_there none first does = record {
       running = does.running;
       nodes = does.nodes;
       logged = refl;
       goes = (quiet_goes (records_of log) command at old.log new.log unlogged (was.in_step runs) does.goes).0;
       none = none;
+      first = first;
     }
 
     -- behind a call of a line of which nothing is logged
@@ -60,9 +62,9 @@ module _ {D : Type 0} (cells : D → Cells) (plans : D → Option Plans) (old ne
     line_stands (Err e) does ends = ended_stands ends
 
     -- what it did
-    pub line_does : {X E : Type 0} (r : Result X E) → OnOk r (TellsNone command old.log new.log) → OnOk r (Does command at old new) → OnOk r (DoesAtSite command at s (site_of new log))
-    line_does (Ok x) none does = subst (λ (z : SiteRun). DoesAtSite command at z (site_of new log)) view (done_there none does)
-    line_does (Err e) none does = tt
+    pub line_does : {X E : Type 0} (r : Result X E) → OnOk r (TellsNone command old.log new.log) → OnOk r (TellsFirst command old.log new.log) → OnOk r (Does command at old new) → OnOk r (DoesAtSite command at s (site_of new log))
+    line_does (Ok x) none first does = subst (λ (z : SiteRun). DoesAtSite command at z (site_of new log)) view (done_there none first does)
+    line_does (Err e) none first does = tt
 
   module _ (command : LineCommand) (at : At) (quiet : is_quiet command ≡ true) where
     -- behind a quiet one
@@ -72,7 +74,8 @@ module _ {D : Type 0} (cells : D → Cells) (plans : D → Option Plans) (old ne
     -- what that did
     pub call_does : {X E : Type 0} (r : Result X E) → OnOk r (Does command at old new) → OnOk r (DoesAtSite command at s (site_of new log))
     call_does r does =
-        line_does command at (quiet_unlogged command quiet) r (on_ok_weaker r (λ (d : Does command at old new). apart_none command at old.log new.log (quiet_apart command quiet) d.goes) does) does
+        line_does command at (quiet_unlogged command quiet) r (on_ok_weaker r (λ (d : Does command at old new). apart_none command at old.log new.log (quiet_apart command quiet) d.goes) does)
+        (on_ok_weaker r (λ (d : Does command at old new). apart_first command at old.log new.log (quiet_unmerged command quiet) d.goes) does) does
 
   module _ (by : Option At) where
     task_done : DoesTask by old new → SiteStands cells plans new log

@@ -13,6 +13,7 @@ use Rattle.trans_log.specs.declared.log.TransLog.{TransLog}
 use Rattle.trans_log.specs.Logs.{IsOpenLog, IsLogSafe, IsCalm}
 use Rattle.lane_threads.specs.Owes.{GoesByLine, GoesByTask, FaultsFit}
 use Rattle.lane_threads.specs.Idle.{TellsNone}
+use Rattle.lane_threads.specs.Firsts.{TellsFirst}
 use Rattle.cluster_state.specs.Run.{Run}
 
 -- what callers see: the cluster, and the records of its log where it has one
@@ -76,13 +77,15 @@ module _ {D : Type 0} (cells : D → Cells) (plans : D → Option Plans) where
     pub in_step : r.ended ≡ false → IsInStep (records_of log) (printed r.log)
     pub stands : r.ended ≡ false → LogStands log
 
--- a call of a line did some of what its command asks for; where it answers `none` to a publish, that is so
+-- a call of a line did some of what its command asks for; where it answers `none` to a publish, that is so, and where it starts a merge, that
+-- takes the first range that is due
 pub record DoesAtSite (command : LineCommand) (at : At) (old new : SiteRun) : Type 0 where
   pub running : new.run.ended ≡ false
   pub nodes : new.run.nodes ≡ old.run.nodes
   pub logged : is_logged new ≡ is_logged old
   pub goes : GoesByLine (is_logged old) command at old.run.log new.run.log
   pub none : TellsNone command old.run.log new.run.log
+  pub first : TellsFirst command old.run.log new.run.log
 
 -- a call of a task did some of its work, for the drain line that took it or for none
 pub record DoesTaskAtSite (by : Option At) (old new : SiteRun) : Type 0 where

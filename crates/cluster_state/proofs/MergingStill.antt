@@ -158,7 +158,7 @@ vacant_left (Crashed m) p leaves none = by (is_at p m.0) leaves none
 vacant_left e p leaves none = none
 
 inputs_kept : (log : Log) (i : Inner) → leaves_tasks i ≡ true → InputsStay log (kept i ∷ log)
-inputs_kept log (MergeOut line seg inputs) leaves n x is = absurd (true≢false (sym leaves))
+inputs_kept log (MergeOut line seg inputs sizes) leaves n x is = absurd (true≢false (sym leaves))
 inputs_kept log i leaves n x is = is
 
 module _ {D : Type 0} (board : Board) (old new : List (Option (NodePlace D))) where

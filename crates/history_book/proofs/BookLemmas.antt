@@ -30,9 +30,9 @@ use Rattle.history_book.specs.declared.inner.Inner.{Inner}
 use Rattle.history_book.specs.declared.inner.Stop.{Stop}
 use Rattle.history_book.specs.declared.inner.Stop.TheVariants.{Inner as InnerStop}
 use Rattle.history_book.specs.declared.inner.Mark.TheVariants.{Kept}
-use Rattle.history_book.specs.Log.{Log, Pages, FaultsFollow, FollowsMerging, printed, weave, marks, mark_for, stop_for}
+use Rattle.history_book.specs.Log.{Log, Pages, FaultsFollow, FollowsMerging, printed, weave, marks, inner_marks, mark_for, stop_for}
 use Rattle.history_book.specs.Turns.{InTurn, AreInTurn}
-use Rattle.history_book.specs.Tells.{Tells, IsWoven}
+use Rattle.history_book.specs.Tells.{Tells, HasRoom, IsWoven}
 use Rattle.history_book.specs.Told.{IsTold}
 use Rattle.history_book.proofs.LineLaws.{flying, open_started}
 use Rattle.history_book.proofs.CopyLaws.{knows_newest}
@@ -90,13 +90,17 @@ tells_next size past at e count k k' rows rows' lines lines' tickets tickets' st
   tickets_tell = λ l n. ticket past l n lived ∙ ap (λ (o : Option Ticket). ticket_by l n at e past o) (t.tickets_tell l n);
 }
 
-weave_for : (task : Bool) (stops : List Stop) (es : List Entry) (e : Entry) → weave (stop_for task ∷ stops) (e ∷ es) ≡ mark_for task e ∷ weave stops es
-weave_for true stops es e = refl
-weave_for false stops es e = refl
+weave_for : (task : Bool) (stops : List Stop) (es : List Entry) (inners : List Inner) (e : Entry) → weave (stop_for task ∷ stops) (e ∷ es) inners ≡ mark_for task e ∷ weave stops es inners
+weave_for true stops es inners e = refl
+weave_for false stops es inners e = refl
 
 marks_for : (task : Bool) (stops : List Stop) → marks (stop_for task ∷ stops) ≡ marks stops + 1
 marks_for true stops = refl
 marks_for false stops = refl
+
+inner_marks_for : (task : Bool) (stops : List Stop) → inner_marks (stop_for task ∷ stops) ≡ inner_marks stops
+inner_marks_for true stops = refl
+inner_marks_for false stops = refl
 
 pub printed_for : (task : Bool) (e : Entry) (log : Log) → printed (mark_for task e ∷ log) ≡ e ∷ printed log
 printed_for true e log = refl
@@ -107,13 +111,16 @@ faults_for true e log follows was = (follows refl, was)
 faults_for false e log follows was = was
 
 -- a printed entry, of a merge's task or not, is one more in the list
-pub woven : (task : Bool) (stops stops' : List Stop) (es es' : List Entry) (e : Entry) → stops' ≡ stops ++ stop_for task ∷ [] → es' ≡ es ++ e ∷ []
-    → weave (reverse stops') (reverse es') ≡ mark_for task e ∷ weave (reverse stops) (reverse es)
-woven task stops stops' es es' e s t = ap (λ (x : List Stop). weave x (reverse es')) (ap reverse s ∙ reverse-append stops (stop_for task ∷ []))
-    ∙ (ap (λ (x : List Entry). weave (stop_for task ∷ reverse stops) x) (ap reverse t ∙ reverse-append es (e ∷ [])) ∙ weave_for task (reverse stops) (reverse es) e)
+pub woven : (task : Bool) (stops stops' : List Stop) (es es' : List Entry) (inners : List Inner) (e : Entry) → stops' ≡ stops ++ stop_for task ∷ [] → es' ≡ es ++ e ∷ []
+    → weave (reverse stops') (reverse es') inners ≡ mark_for task e ∷ weave (reverse stops) (reverse es) inners
+woven task stops stops' es es' inners e s t = ap (λ (x : List Stop). weave x (reverse es') inners) (ap reverse s ∙ reverse-append stops (stop_for task ∷ []))
+    ∙ (ap (λ (x : List Entry). weave (stop_for task ∷ reverse stops) x inners) (ap reverse t ∙ reverse-append es (e ∷ [])) ∙ weave_for task (reverse stops) (reverse es) inners e)
 
 pub marked : (task : Bool) (stops stops' : List Stop) (n m : ℕ) → stops' ≡ stops ++ stop_for task ∷ [] → marks (reverse stops) ≡ n → m ≡ n + 1 → marks (reverse stops') ≡ m
 marked task stops stops' n m s was is = ap marks (ap reverse s ∙ reverse-append stops (stop_for task ∷ [])) ∙ (marks_for task (reverse stops) ∙ (ap (λ (x : ℕ). x + 1) was ∙ sym is))
+
+inner_marked : (task : Bool) (stops stops' : List Stop) (n : ℕ) → stops' ≡ stops ++ stop_for task ∷ [] → inner_marks (reverse stops) ≡ n → inner_marks (reverse stops') ≡ n
+inner_marked task stops stops' n s was = ap inner_marks (ap reverse s ∙ reverse-append stops (stop_for task ∷ [])) ∙ (inner_marks_for task (reverse stops) ∙ was)
 
 -- what a list tells with one entry more
 pub log_tells : (task : Bool) (e : Entry) (old new : Log) (size count : ℕ) (numbers : Numbers) (rows : List NodeRow) (lines : List LineRow) (tickets : List TicketRow)
@@ -122,28 +129,37 @@ log_tells task e old new size count numbers rows lines tickets is tells =
     subst (λ (p : Past). Tells p size count numbers rows lines tickets) (sym (ap printed is ∙ printed_for task e old)) tells
 
 -- one printed entry more, woven in
-pub woven_next : (task : Bool) (stops stops' : List Stop) (es es' : List Entry) (e : Entry) (n m : ℕ) → stops' ≡ stops ++ stop_for task ∷ [] → es' ≡ es ++ e ∷ []
-    → (task ≡ true → FollowsMerging e.at e.event (printed (weave (reverse stops) (reverse es)))) → m ≡ n + 1
-    → IsWoven (reverse stops) (reverse es) n → IsWoven (reverse stops') (reverse es') m
-woven_next task stops stops' es es' e n m s t follows more was = record {
+pub woven_next : (task : Bool) (stops stops' : List Stop) (es es' : List Entry) (inners : List Inner) (e : Entry) (n m : ℕ) → stops' ≡ stops ++ stop_for task ∷ [] → es' ≡ es ++ e ∷ []
+    → (task ≡ true → FollowsMerging e.at e.event (printed (weave (reverse stops) (reverse es) inners))) → m ≡ n + 1
+    → IsWoven (reverse stops) (reverse es) inners n → IsWoven (reverse stops') (reverse es') inners m
+woven_next task stops stops' es es' inners e n m s t follows more was = record {
   printed_count = marked task stops stops' n m s was.printed_count more;
-  faults = subst FaultsFollow (sym (woven task stops stops' es es' e s t)) (faults_for task e (weave (reverse stops) (reverse es)) follows was.faults);
+  inner_count = inner_marked task stops stops' (length inners) s was.inner_count;
+  faults = subst FaultsFollow (sym (woven task stops stops' es es' inners e s t)) (faults_for task e (weave (reverse stops) (reverse es) inners) follows was.faults);
 }
 
 -- an inner entry is one more in the list
-pub kept_in : (i : Inner) (stops stops' : List Stop) (es : List Entry) → stops' ≡ stops ++ InnerStop i ∷ []
-    → weave (reverse stops') es ≡ Kept i ∷ weave (reverse stops) es
-kept_in i stops stops' es s = ap (λ (x : List Stop). weave x es) (ap reverse s ∙ reverse-append stops (InnerStop i ∷ []))
+pub kept_in : (i : Inner) (stops stops' : List Stop) (es : List Entry) (inners inners' : List Inner) → stops' ≡ stops ++ InnerStop ∷ [] → inners' ≡ inners ++ i ∷ []
+    → weave (reverse stops') es (reverse inners') ≡ Kept i ∷ weave (reverse stops) es (reverse inners)
+kept_in i stops stops' es inners inners' s t = ap (λ (x : List Stop). weave x es (reverse inners')) (ap reverse s ∙ reverse-append stops (InnerStop ∷ []))
+    ∙ ap (λ (x : List Inner). weave (InnerStop ∷ reverse stops) es x) (ap reverse t ∙ reverse-append inners (i ∷ []))
 
-pub kept_marks : (i : Inner) (stops stops' : List Stop) (n : ℕ) → stops' ≡ stops ++ InnerStop i ∷ [] → marks (reverse stops) ≡ n → marks (reverse stops') ≡ n
-kept_marks i stops stops' n s was = ap marks (ap reverse s ∙ reverse-append stops (InnerStop i ∷ [])) ∙ was
+kept_marks : (stops stops' : List Stop) (n : ℕ) → stops' ≡ stops ++ InnerStop ∷ [] → marks (reverse stops) ≡ n → marks (reverse stops') ≡ n
+kept_marks stops stops' n s was = ap marks (ap reverse s ∙ reverse-append stops (InnerStop ∷ [])) ∙ was
+
+kept_count : (i : Inner) (stops stops' : List Stop) (inners inners' : List Inner) → stops' ≡ stops ++ InnerStop ∷ [] → inners' ≡ inners ++ i ∷ []
+    → inner_marks (reverse stops) ≡ length (reverse inners) → inner_marks (reverse stops') ≡ length (reverse inners')
+kept_count i stops stops' inners inners' s t was =
+    ap inner_marks (ap reverse s ∙ reverse-append stops (InnerStop ∷ []))
+    ∙ (ap (λ (n : ℕ). n + 1) was ∙ sym (ap length (ap reverse t ∙ reverse-append inners (i ∷ [])) ∙ omega arith))
 
 -- one inner entry more, woven in
-pub kept_next : (i : Inner) (stops stops' : List Stop) (es : List Entry) (n : ℕ) → stops' ≡ stops ++ InnerStop i ∷ []
-    → IsWoven (reverse stops) es n → IsWoven (reverse stops') es n
-kept_next i stops stops' es n s was = record {
-  printed_count = kept_marks i stops stops' n s was.printed_count;
-  faults = subst FaultsFollow (sym (kept_in i stops stops' es s)) was.faults;
+pub kept_next : (i : Inner) (stops stops' : List Stop) (es : List Entry) (inners inners' : List Inner) (n : ℕ) → stops' ≡ stops ++ InnerStop ∷ [] → inners' ≡ inners ++ i ∷ []
+    → IsWoven (reverse stops) es (reverse inners) n → IsWoven (reverse stops') es (reverse inners') n
+kept_next i stops stops' es inners inners' n s t was = record {
+  printed_count = kept_marks stops stops' n s was.printed_count;
+  inner_count = kept_count i stops stops' inners inners' s t was.inner_count;
+  faults = subst FaultsFollow (sym (kept_in i stops stops' es inners inners' s t)) was.faults;
 }
 
 pub kept_tells : (i : Inner) (old new : Log) (size count : ℕ) (numbers : Numbers) (rows : List NodeRow) (lines : List LineRow) (tickets : List TicketRow)
@@ -185,17 +201,20 @@ holds_kept i step before size old new at_nodes nodes' of_lanes lanes' is does co
         ∙ (ap (λ (s : JobStep). last_job_by lanes k s before (last_job lanes k old)) does ∙ ap (λ (n : ℕ). last_job_by lanes k (job_step i) n (last_job lanes k old)) count))
 
 -- a book that has just been opened
-pub opened : (size : ℕ) (stops : List Stop) (es : List Entry) (numbers : Numbers) (rows : List NodeRow) (lines : List LineRow) (tickets : List TicketRow) (at_nodes of_lanes : List KeyedJob)
-    → stops ≡ [] → es ≡ [] → NumbersTell [] numbers → length rows ≡ size → RowsTell [] rows → lines ≡ [] → tickets ≡ [] → at_nodes ≡ [] → of_lanes ≡ []
-    → IsWoven (reverse stops) (reverse es) (length es) × Tells (printed (weave (reverse stops) (reverse es))) size (length es) numbers rows lines tickets
-    × HoldsJobs size (weave (reverse stops) (reverse es)) at_nodes of_lanes × IsTold (weave (reverse stops) (reverse es))
-opened size stops es numbers rows lines tickets at_nodes of_lanes s e n count r l t x y =
+pub opened : (size : ℕ) (stops : List Stop) (es : List Entry) (inners : List Inner) (numbers : Numbers) (rows : List NodeRow) (lines : List LineRow) (tickets : List TicketRow) (at_nodes of_lanes : List KeyedJob) (spare_entries spare_inners spare_stops : ℕ)
+    → stops ≡ [] → es ≡ [] → inners ≡ [] → NumbersTell [] numbers → length rows ≡ size → RowsTell [] rows → lines ≡ [] → tickets ≡ [] → at_nodes ≡ [] → of_lanes ≡ []
+    → IsWoven (reverse stops) (reverse es) (reverse inners) (length es) × Tells (printed (weave (reverse stops) (reverse es) (reverse inners))) size (length es) numbers rows lines tickets
+    × HoldsJobs size (weave (reverse stops) (reverse es) (reverse inners)) at_nodes of_lanes × IsTold (weave (reverse stops) (reverse es) (reverse inners))
+    × HasRoom 0 spare_entries spare_inners spare_stops
+opened size stops es inners numbers rows lines tickets at_nodes of_lanes a b c s e o n count r l t x y =
     subst
-    (λ (p : List Stop × List Entry × List LineRow × List TicketRow × List KeyedJob × List KeyedJob). IsWoven (reverse p.0) (reverse p.1) (length p.1)
-    × Tells (printed (weave (reverse p.0) (reverse p.1))) size (length p.1) numbers rows p.2 p.3 × HoldsJobs size (weave (reverse p.0) (reverse p.1)) p.4 p.5 × IsTold (weave (reverse p.0) (reverse p.1)))
-    (λ i. (sym s i, sym e i, sym l i, sym t i, sym x i, sym y i)) (
-      record { printed_count = refl; faults = tt },
+    (λ (p : List Stop × List Entry × List Inner × List LineRow × List TicketRow × List KeyedJob × List KeyedJob). IsWoven (reverse p.0) (reverse p.1) (reverse p.2) (length p.1)
+    × Tells (printed (weave (reverse p.0) (reverse p.1) (reverse p.2))) size (length p.1) numbers rows p.3 p.4 × HoldsJobs size (weave (reverse p.0) (reverse p.1) (reverse p.2)) p.5 p.6
+    × IsTold (weave (reverse p.0) (reverse p.1) (reverse p.2)) × HasRoom 0 a b c)
+    (λ i. (sym s i, sym e i, sym o i, sym l i, sym t i, sym x i, sym y i)) (
+      record { printed_count = refl; inner_count = refl; faults = tt },
       record { legal = tt; turns = tt; entries = refl; nodes = count; numbers_tell = n; rows_tell = r; lines_tell = λ at. refl; tickets_tell = λ lane k. refl },
       record { turns = tt; nodes_tell = λ k. refl; lanes_tell = λ k. refl },
       tt,
+      record { of_entries = omega arith; of_inners = omega arith; of_stops = omega arith },
     )

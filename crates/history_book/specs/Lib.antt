@@ -1,3 +1,4 @@
+pub mod Chosen
 pub mod Jobs
 pub mod Laws
 pub mod Log

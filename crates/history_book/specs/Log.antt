@@ -43,21 +43,29 @@ abbrev pub stop_for : Bool → Stop
 stop_for true = Task
 stop_for false = Printed
 
--- the list that stops and printed entries make, both newest first
-abbrev pub weave : List Stop → List Entry → Log
-weave [] es = []
-weave (InnerStop i ∷ stops) es = Kept i ∷ weave stops es
-weave (Printed ∷ stops) [] = []
-weave (Printed ∷ stops) (e ∷ es) = Shown e ∷ weave stops es
-weave (Task ∷ stops) [] = []
-weave (Task ∷ stops) (e ∷ es) = TaskFault e ∷ weave stops es
+-- the list that stops, printed entries and inner entries make, all newest first
+abbrev pub weave : List Stop → List Entry → List Inner → Log
+weave [] es inners = []
+weave (InnerStop ∷ stops) es [] = []
+weave (InnerStop ∷ stops) es (i ∷ inners) = Kept i ∷ weave stops es inners
+weave (Printed ∷ stops) [] inners = []
+weave (Printed ∷ stops) (e ∷ es) inners = Shown e ∷ weave stops es inners
+weave (Task ∷ stops) [] inners = []
+weave (Task ∷ stops) (e ∷ es) inners = TaskFault e ∷ weave stops es inners
 
 -- how many of the stops are printed
 abbrev pub marks : List Stop → ℕ
 marks [] = 0
 marks (Printed ∷ stops) = marks stops + 1
 marks (Task ∷ stops) = marks stops + 1
-marks (InnerStop i ∷ stops) = marks stops
+marks (InnerStop ∷ stops) = marks stops
+
+-- how many of the stops are of inner work
+abbrev pub inner_marks : List Stop → ℕ
+inner_marks [] = 0
+inner_marks (Printed ∷ stops) = inner_marks stops
+inner_marks (Task ∷ stops) = inner_marks stops
+inner_marks (InnerStop ∷ stops) = inner_marks stops + 1
 
 -- the event begins a merge
 abbrev pub begins_merge : Event → Bool

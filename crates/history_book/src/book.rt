@@ -16,12 +16,15 @@ use nrt_base::{At, LaneNo, List, NodeNo, TicketNo, Version};
 use std::alloc::{AllocError, Global};
 use std::marker::Model;
 
-/// All entries, printed and inner, and what they show.
+/// All entries, printed and inner, and what they show. The list of all stands as three: what each is, the printed ones, and those of inner work,
+/// so that a printed entry has no room for an inner one.
 #[derive(Debug, Drop)]
 pub struct Book {
     nodes: u8,
     entries: Vec<Entry>,
+    inners: Vec<Inner>,
     stops: Vec<Stop>,
+    room: usize,
     numbers: Numbers,
     rows: Vec<NodeRow>,
     lines: Lines,
@@ -33,7 +36,7 @@ pub struct Book {
 impl Model for Book {
     ghost use Rattle.std.specs.Prelude.{◌-◌, min, vec_capacity, vec_len, reverse, length};
     ghost use Rattle.history_book.specs.Log.{Pages, printed, weave};
-    ghost use Rattle.history_book.specs.Tells.{IsWoven, Tells};
+    ghost use Rattle.history_book.specs.Tells.{IsWoven, HasRoom, Tells};
     ghost use Rattle.history_book.specs.Jobs.{HoldsJobs};
     ghost use Rattle.history_book.specs.Told.{IsTold};
     ghost use Rattle.documents.specs.contracts.query.Query as query;
@@ -45,20 +48,22 @@ impl Model for Book {
 
     ghost view = { λ b. record {
       nodes = b.nodes;
-      log = weave (reverse b.stops.items) (reverse b.entries.items);
-      room = min (vec_capacity b.entries - vec_len b.entries)
-          (vec_capacity b.stops - vec_len b.stops);
+      log = weave (reverse b.stops.items) (reverse b.entries.items) (reverse b.inners.items);
+      room = b.room;
       places = min b.lines.room b.tickets.room;
       jobs = min b.node_jobs.room b.lane_jobs.room;
     } };
 
     ghost invariant = { λ b.
-        IsWoven (reverse b.stops.items) (reverse b.entries.items) (length b.entries.items)
-        × Tells (printed (weave (reverse b.stops.items) (reverse b.entries.items))) b.nodes
+        IsWoven (reverse b.stops.items) (reverse b.entries.items) (reverse b.inners.items)
+        (length b.entries.items)
+        × Tells (printed (weave (reverse b.stops.items) (reverse b.entries.items) (reverse b.inners.items))) b.nodes
         (length b.entries.items) b.numbers b.rows.items b.lines.rows b.tickets.rows
-        × HoldsJobs b.nodes (weave (reverse b.stops.items) (reverse b.entries.items))
+        × HoldsJobs b.nodes (weave (reverse b.stops.items) (reverse b.entries.items) (reverse b.inners.items))
         b.node_jobs.rows b.lane_jobs.rows
-        × IsTold (weave (reverse b.stops.items) (reverse b.entries.items)) };
+        × IsTold (weave (reverse b.stops.items) (reverse b.entries.items) (reverse b.inners.items))
+        × HasRoom b.room (vec_capacity b.entries - vec_len b.entries)
+        (vec_capacity b.inners - vec_len b.inners) (vec_capacity b.stops - vec_len b.stops) };
 }
 
 // the row at this place
@@ -118,7 +123,9 @@ impl Book {
         Ok(Book {
             nodes,
             entries: Vec::new(alloc),
+            inners: Vec::new(alloc),
             stops: Vec::new(alloc),
+            room: 0,
             numbers: Numbers::first(),
             rows,
             lines: Lines::new(alloc),
@@ -148,7 +155,9 @@ impl Book {
         ensures jobs { OnOk result (1 ≤ self.new.jobs) }
     {
         self.entries.reserve(count)?;
+        self.inners.reserve(count)?;
         self.stops.reserve(count)?;
+        self.room = self.room.max(count);
         self.lines.reserve()?;
         self.tickets.reserve()?;
         self.node_jobs.reserve()?;
@@ -222,6 +231,7 @@ impl Book {
         self.entries.push_reserved(Entry { at, event });
         let stop = stop_for(by_task);
         self.stops.push_reserved(stop);
+        self.room -= 1;
     }
 
     /// How many operations the generation had accepted at the start of the publish in flight.
@@ -662,7 +672,9 @@ impl Book {
         let before = self.entries.len();
         self.node_jobs.step(false, step, before);
         self.lane_jobs.step(true, step, before);
-        self.stops.push_reserved(Stop::Inner(inner));
+        self.inners.push_reserved(inner);
+        self.stops.push_reserved(Stop::Inner);
+        self.room -= 1;
     }
 
     /// The job that runs at a node.

@@ -34,11 +34,12 @@ pub enum Inner {
     FlushEnd {
         at: At,
     },
-    /// A merge into this segment was handed out, with its inputs as they were.
+    /// A merge into this segment was handed out, with its inputs as they were, and the sizes of all segments, of which it was chosen.
     MergeOut {
         line: LineNo,
         seg: SegNo,
         inputs: List<Segment>,
+        sizes: List<Option<u32>>,
     },
     /// That merge has ended, cut over or not.
     MergeEnd {
@@ -86,12 +87,12 @@ pub enum Inner {
     },
 }
 
-/// What stands next in the list: a printed entry, one that is a fault of a merge's task, or this inner one.
-#[derive(Debug, Drop)]
+/// What stands next in the list: a printed entry, one that is a fault of a merge's task, or one of inner work.
+#[derive(Clone, Copy, Debug, PartialEq, Eq)]
 pub enum Stop {
     Printed,
     Task,
-    Inner(Inner),
+    Inner,
 }
 
 /// An entry of the one list.

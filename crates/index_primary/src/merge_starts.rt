@@ -19,7 +19,7 @@ use file_deleter::FileDeleter;
 use file_names::FileName;
 use nrt_base::{List, NoMemory, SegNo, Share};
 use segment_infos::{Infos, SegRecord, files_of};
-use segment_steps::{MergeStart, MergeTask, start_merge};
+use segment_steps::{MergeStart, MergeTask, sizes_of, start_merge};
 use std::alloc::Global;
 
 // Whether the number is one of these.
@@ -183,6 +183,15 @@ fn choose<D: Dir>(
 }
 
 impl<D: Dir> Primary<D> {
+    /// The sizes of the writer's segments, of which a merge is chosen.
+    pub fn sizes(&self, alloc: Global) -> Result<List<Option<u32>>, NoMemory>
+        ensures { IfOk result (λ sizes. sizes ≡ merge_sizes self.now) }
+    {
+        let held = inputs_of(alloc, self.parts.merges.as_slice())?;
+        let sizes = sizes_of(alloc, self.parts.infos.segs.as_slice(), &held)?;
+        Ok(List::from_vec(sizes))
+    }
+
     /// Starts a merge of the first neighbours that can be chosen, as many as the factor: draws its number, and holds the files of its
     /// inputs. None comes exactly where there are none. The directory is not called.
     pub fn merge_start(

@@ -1,5 +1,5 @@
 -- A drain line that does tasks has no entry until its reply.
-use Rattle.std.proofs.Common.{◌≡◌, ℕ, Bool, [], Option, ap, ◌∙◌}
+use Rattle.std.proofs.Common.{◌≡◌, ℕ, Bool, [], Option, ap, ◌∙◌, None}
 use Rattle.std.specs.Prelude.{Result, Ok, Err, IfOk}
 use Rattle.nrt_base.specs.declared.numbers.At.{At}
 use Rattle.history_rules.specs.Lines.{entries_of_line}
@@ -39,7 +39,7 @@ works_line {logged = logged} lock command at by before after fresh works =
           more = grows.more;
           log = grows.log;
           faults = grows.faults;
-          serves = λ lines found early. silent_serves logged at.lane.0 by lines grows.more (log_seen before) grows.silent;
+          serves = λ lines found early. silent_serves logged at.lane.0 by lines None grows.more (log_seen before) grows.silent;
         };
       };
       now = silent_fresh at by (log_seen before) (log_seen after) grows fresh;

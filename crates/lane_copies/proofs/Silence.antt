@@ -1,9 +1,10 @@
 -- Entries among which no line of a lane goes on.
-use Rattle.std.proofs.Common.{◌≡◌, ◌≢◌, ℕ, Bool, List, [], ◌∷◌, ◌++◌, Option, None, refl, ap, ◌∙◌, sym, subst, inl, inr, arith, if◌then◌else◌}
+use Rattle.std.proofs.Common.{◌≡◌, ◌≢◌, ℕ, Bool, List, [], ◌∷◌, ◌++◌, Option, None, refl, ap, ◌∙◌, sym, subst, inl, inr, arith, if◌then◌else◌, Some}
 use Rattle.std.specs.List.{AllByRecursion}
 use Rattle.std.proofs.lemmas.Bool.Decides.{eqb_tells}
 use Rattle.nrt_base.specs.declared.numbers.At.{At}
 use Rattle.history_rules.specs.Lines.{entries_of_line}
+use Rattle.history_book.specs.declared.inner.Mark.{Mark}
 use Rattle.history_book.specs.declared.inner.Mark.TheVariants.{Shown, TaskFault, Kept}
 use Rattle.history_book.specs.Log.{Log, printed, lane_name, name_by}
 use Rattle.script_serving.specs.declared.script.Line.{Line}
@@ -69,14 +70,14 @@ module _ {logged : Bool} (lane : ℕ) (by : Option At) where
   silent_others none old new h = record { more = h.more; log = h.log; apart = silent_apart lane by none h.more h.silent; faults = h.faults }
 
 -- nothing is owed of these entries, whatever lines the lane has
-pub silent_serves : (logged : Bool) (lane : ℕ) (by : Option At) (lines : List Line) (more old : Log) → AllByRecursion (IsSilent lane by) more → ServesSince logged lane lines more old
-silent_serves logged lane by lines [] old h = tt
-silent_serves logged lane by lines (Shown e ∷ more) old h = (on_other _ _ (other_lane e.at.lane.0 lane h.0), silent_serves logged lane by lines more old h.1)
-silent_serves logged lane by lines (TaskFault e ∷ more) old h = silent_serves logged lane by lines more old h.1
-silent_serves logged lane by lines (Kept i ∷ more) old h = silent_serves logged lane by lines more old h.1
+pub silent_serves : (logged : Bool) (lane : ℕ) (by : Option At) (lines : List Line) (behind : Option Mark) (more old : Log) → AllByRecursion (IsSilent lane by) more → ServesSince logged lane lines behind more old
+silent_serves logged lane by lines behind [] old h = tt
+silent_serves logged lane by lines behind (Shown e ∷ more) old h = (on_other _ _ (other_lane e.at.lane.0 lane h.0), silent_serves logged lane by lines (Some (Shown e)) more old h.1)
+silent_serves logged lane by lines behind (TaskFault e ∷ more) old h = silent_serves logged lane by lines (Some (TaskFault e)) more old h.1
+silent_serves logged lane by lines behind (Kept i ∷ more) old h = silent_serves logged lane by lines (Some (Kept i)) more old h.1
 
 -- a line of the lane that has no entry stays so
 pub silent_fresh : {logged : Bool} (at : At) (by : Option At) (old new : Log) → GrowsSilently logged at.lane.0 by old new → entries_of_line at (printed old) ≡ [] → entries_of_line at (printed new) ≡ []
 silent_fresh {logged = logged} at by old new h fresh =
     subst (λ (l : Log). entries_of_line at (printed l) ≡ []) (sym h.log)
-    (fresh_since logged at.lane.0 [] at h.more old refl refl (silent_serves logged at.lane.0 by [] h.more old h.silent) (subst (FaultsFit logged) h.log h.faults) fresh)
+    (fresh_since logged at.lane.0 [] at None h.more old refl refl (silent_serves logged at.lane.0 by [] None h.more old h.silent) (subst (FaultsFit logged) h.log h.faults) fresh)

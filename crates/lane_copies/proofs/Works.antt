@@ -16,7 +16,7 @@ use Rattle.hist_lock.specs.declared.lock.LaneSeat.{LaneSeat}
 use Rattle.hist_lock.specs.History.{Extends}
 use Rattle.hist_lock.specs.Seats.{history_seen}
 use Rattle.lane_threads.specs.Owes.{AddsEntries, AddsByTask, GoesByLine, GoesByTask}
-use Rattle.lane_threads.proofs.IdleLemmas.{apart_none}
+use Rattle.lane_threads.proofs.IdleLemmas.{apart_none, apart_first}
 use Rattle.lane_threads.specs.Seats.{log_seen, IsLaneSeat}
 use Rattle.merge_tasks.specs.declared.tasks.Task.{Task}
 use Rattle.merge_tasks.specs.TaskLog.{carried_out}
@@ -51,7 +51,7 @@ line_does : (at : At) (by : Option At) → IsTakerAt at by → (old new : SiteRu
 line_does at by is old new does =
     let goes : GoesByLine (is_logged old) Settle at old.run.log new.run.log =
     record { more = does.goes.more; log = does.goes.log; adds = line_adds (is_logged old) at by is does.goes.more old.run.log does.goes.adds } in
-    record { running = does.running; nodes = does.nodes; logged = does.logged; goes = goes; none = apart_none Settle at old.run.log new.run.log refl goes }
+    record { running = does.running; nodes = does.nodes; logged = does.logged; goes = goes; none = apart_none Settle at old.run.log new.run.log refl goes; first = apart_first Settle at old.run.log new.run.log refl goes }
 
 -- ---- what a task waits for
 

@@ -85,11 +85,11 @@ module _ {g : Ghosts SiteRun Mark} {logged : Bool} (lock : HistLock SiteRun Mark
     -- it took its line on
     pub call_takes : (now : Log → Type 0) → DoesAtSite command at found new → now new.run.log → TakesLineTo logged now lock command at before after
     call_takes now does is =
-        record { taken = section_taken no_answer logged lock command at before after found.run.log new.run.log entered.has (left logged) seen (goes_here does) does.none; now = subst now (sym seen) is }
+        record { taken = section_taken no_answer logged lock command at before after found.run.log new.run.log entered.has (left logged) seen (goes_here does) does.none does.first; now = subst now (sym seen) is }
 
     -- it ended its line
     pub call_ends : DoesAtSite command at found new → IsReplied at new.run → EndsItsLine logged lock command at before after
-    call_ends does replied = section_ended no_answer logged lock command at before after found.run.log new.run.log entered.has (left logged) seen (goes_here does) does.none replied
+    call_ends does replied = section_ended no_answer logged lock command at before after found.run.log new.run.log entered.has (left logged) seen (goes_here does) does.none does.first replied
 
     pub on_call_ends : {T E : Type 0} (r : Result T E) → OnOk r (DoesAtSite command at found new) → OnOk r (IsReplied at new.run) → OnOk r (EndsItsLine logged lock command at before after)
     on_call_ends (Ok x) does replied = call_ends does replied

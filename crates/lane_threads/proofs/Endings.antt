@@ -1,5 +1,5 @@
 -- What all lanes have done once their seats are joined and the lock is closed.
-use Rattle.std.proofs.Common.{◌≡◌, ℕ, ◌<◌, ◌≤◌, Bool, List, [], ◌∷◌, ◌++◌, ◌∙◌, sym, subst, arith, reverse, length, take, drop, inl, inr}
+use Rattle.std.proofs.Common.{◌≡◌, ℕ, ◌<◌, ◌≤◌, Bool, List, [], ◌∷◌, ◌++◌, ◌∙◌, sym, subst, arith, reverse, length, take, drop, inl, inr, None}
 use Rattle.std.specs.Prelude.{slice_index_or, ◌-◌}
 use Rattle.std.proofs.lemmas.Bool.{cases_lt}
 use Rattle.std.proofs.lemmas.List.{reverse-reverse, take_all, drop_all}
@@ -21,7 +21,8 @@ use Rattle.lane_threads.specs.Owes.{FaultsFit, IsSettledLog}
 use Rattle.lane_threads.specs.Walks.{GrowsByOthers}
 use Rattle.lane_threads.specs.Phases.{LaneReady, LaneEnds, LanesEnd, IsHistoryOf}
 use Rattle.lane_threads.specs.Idle.{NoneIsTold}
-use Rattle.lane_threads.proofs.ScriptLemmas.{form_of, script_served, script_none}
+use Rattle.lane_threads.specs.Firsts.{FirstIsTold}
+use Rattle.lane_threads.proofs.ScriptLemmas.{form_of, script_served, script_none, script_first}
 use Rattle.lane_threads.specs.Seats.{log_seen}
 use Rattle.lane_threads.proofs.SeatLemmas.{apart_of, of_lanes}
 use Rattle.lane_threads.specs.declared.lane.Lane.{Lane}
@@ -100,6 +101,10 @@ module _ {T : Type 0} {g : Ghosts T Mark} (named : g.names ≡ name_of) (lock : 
   -- and its answers `none` are so
   pub none_left : IsInForm script → NoneIsTold script log
   none_left form = script_none script log (form_of script form) (ends_with (first_of ls done.crew.lanes))
+
+  -- and its merges take first ranges
+  pub first_left : IsInForm script → FirstIsTold script None log
+  first_left form = script_first script log (form_of script form) (ends_with (first_of ls done.crew.lanes))
 
 -- what a slice of a vector leaves behind: the vector has it
 pub phases_back : {T : Type 0} {g : Ghosts T Mark} (logged : Bool) (lock : HistLock T Mark) (phases : List Phase) (k n w : ℕ) (s : LaneSeat T Mark g) (ls rest : List (Lane T Mark g))

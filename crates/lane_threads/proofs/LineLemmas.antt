@@ -82,9 +82,9 @@ module _ (logged : Bool) (lane : ℕ) (lines : List Line) (i : ℕ) (line : Line
       ap (λ (b : Bool). if b then true else is_answered line.at past && earlier_answered rest line.at past) (same_at_self line.at) in
       subst (λ (ls : List Line). earlier_answered ls line.at past ≡ true) (sym whole) (earlier_past (take i lines) (line ∷ rest) line.at past d turn)
 
-  single_serves : (old new : Log) → line.at.lane.0 ≡ lane → (goes : LineGoes logged line.command line.at old new) → ServesSince logged lane (line ∷ []) goes.more old
+  single_serves : (old new : Log) → line.at.lane.0 ≡ lane → (goes : LineGoes logged line.command line.at old new) → ServesSince logged lane (line ∷ []) None goes.more old
   single_serves old new mine goes =
-      subst (λ (n : ℕ). ServesSince logged n (line ∷ []) goes.more old) mine
+      subst (λ (n : ℕ). ServesSince logged n (line ∷ []) None goes.more old) mine
       (goes.serves (line ∷ []) (ap (λ (b : Bool). if b then Some line.command else None) (same_at_self line.at))
       (ap (λ (b : Bool). if b then true else is_answered line.at (printed old) && true) (same_at_self line.at)))
 
@@ -93,8 +93,8 @@ module _ (logged : Bool) (lane : ℕ) (lines : List Line) (i : ℕ) (line : Line
   going_on initial old new part s r =
       let mine : line.at.lane.0 ≡ lane = line_lane part in
       let more : Log = r.goes.more in
-      let serves : ServesSince logged lane lines more old =
-      subst (λ (n : ℕ). ServesSince logged n lines more old) mine (r.goes.serves lines (found_here part) (turn_here (printed old) s.answered)) in
+      let serves : ServesSince logged lane lines None more old =
+      subst (λ (n : ℕ). ServesSince logged n lines None more old) mine (r.goes.serves lines (found_here part) (turn_here (printed old) s.answered)) in
       let faults : FaultsFit logged (more ++ old) = subst (FaultsFit logged) r.goes.log r.goes.faults in
       let stays : all_answered (take i lines) (printed new) ≡ true =
       subst (λ (l : Log). all_answered (take i lines) (printed l) ≡ true) (sym r.goes.log) (all_answered_stays (take i lines) more old s.answered) in
@@ -102,7 +102,7 @@ module _ (logged : Bool) (lane : ℕ) (lines : List Line) (i : ℕ) (line : Line
         goes = record {
           more = more ++ s.goes.more;
           log = log_then initial old new s.goes.more more s.goes.log r.goes.log;
-          serves = since_append logged lane lines more s.goes.more initial (subst (λ (l : Log). ServesSince logged lane lines more l) s.goes.log serves) s.goes.serves;
+          serves = since_append logged lane lines None more s.goes.more initial (subst (λ (l : Log). ServesSince logged lane lines None more l) s.goes.log serves) s.goes.serves;
           faults = r.goes.faults;
         };
         answered = subst (λ (ls : List Line). all_answered ls (printed new) ≡ true) (sym taken)

@@ -18,13 +18,15 @@ use Rattle.script_serving.specs.Lines.{command_at, has_line, all_answered, earli
 use Rattle.script_serving.specs.Refusals.{refusal}
 use Rattle.script_serving.specs.Replays.{due}
 use Rattle.script_serving.specs.Serves.{Begins, First, Suits, SuitsFault, FitsTurn, FitsReplay, Fits}
+use Rattle.history_book.specs.declared.inner.Mark.{Mark}
 use Rattle.history_book.specs.declared.inner.Mark.TheVariants.{Shown, TaskFault, Kept}
 use Rattle.history_book.specs.Log.{Log, printed, has_merging, begins_merge, FollowsMerging}
 use Rattle.lane_threads.specs.Owes.{FaultsFit}
 use Rattle.lane_threads.specs.Idle.{NoneIsSo}
+use Rattle.lane_threads.specs.Firsts.{FirstIsSo}
 use Rattle.lane_threads.specs.Walks.{OnLane, ServesSince}
-use Rattle.lane_threads.specs.Phases.{ServesLane, NoneOnLane}
-use Rattle.lane_threads.proofs.WalkLemmas.{lane_self, on_map, off_this, all_answered_stays}
+use Rattle.lane_threads.specs.Phases.{ServesLane, NoneOnLane, FirstOnLane}
+use Rattle.lane_threads.proofs.WalkLemmas.{lane_self, on_map, off_this, all_answered_stays, first_any}
 use Rattle.lane_threads.proofs.StayLemmas.{merging_there, fresh_fault}
 
 -- ---- a command among lines before, behind and between others
@@ -180,6 +182,13 @@ fault_fits (op ∷ ops) lines a past e o none f m = absurd (cc)
 
 -- ---- a part of the walk, over the lines of one phase, goes on in the walk over all
 
+-- an entry may come behind those that owe nothing more
+first_on_any : (lane : ℕ) (lines : List Line) (behind : Option Mark) (log : Log) → FirstOnLane lane lines None log → FirstOnLane lane lines behind log
+first_on_any lane lines behind [] s = tt
+first_on_any lane lines behind (Shown e ∷ log) s = (on_map (e.at.lane.0 == lane) _ _ (λ same owed. first_any (command_at lines e.at) behind e.at e.event owed) s.0, s.1)
+first_on_any lane lines behind (TaskFault e ∷ log) s = s
+first_on_any lane lines behind (Kept i ∷ log) s = s
+
 module _ (logged : Bool) (lane : ℕ) (done part later : List Line) (apart : (at : At) (c : LineCommand) → command_at part at ≡ Some c → has_line done at ≡ false) where
   fits_in : (ops : List Op) (at : At) (past : Past) (e : Event) (o : Option LineCommand) → command_at part at ≡ o → all_answered done past ≡ true
       → Fits ops part past at o e → Fits ops (done ++ (part ++ later)) past at (command_at (done ++ (part ++ later)) at) e
@@ -189,17 +198,17 @@ module _ (logged : Bool) (lane : ℕ) (done part later : List Line) (apart : (at
       rw found (fits_wider ops part (done ++ (part ++ later)) c at past e
       (λ early. earlier_past done (part ++ later) at past d (earlier_in part later at past (has_command part at c is) early)) h)
 
-  pub serves_part : (more old : Log) → ServesSince logged lane part more old → FaultsFit logged (more ++ old) → all_answered done (printed old) ≡ true
+  pub serves_part : (behind : Option Mark) (more old : Log) → ServesSince logged lane part behind more old → FaultsFit logged (more ++ old) → all_answered done (printed old) ≡ true
       → ServesLane logged lane (done ++ (part ++ later)) (printed old) → ServesLane logged lane (done ++ (part ++ later)) (printed (more ++ old))
-  serves_part [] old h f d s = s
-  serves_part (Shown e ∷ more) old h f d s =
+  serves_part behind [] old h f d s = s
+  serves_part behind (Shown e ∷ more) old h f d s =
       let past : Past = printed (more ++ old) in (
         on_map (e.at.lane.0 == lane) _ _ (λ same owed. fits_in (due logged past) e.at past e.event (command_at part e.at) refl (all_answered_stays done more old d) owed.0) h.0,
-        serves_part more old h.1 (record { follow = f.follow; wait = f.wait }) d s,
+        serves_part (Some (Shown e)) more old h.1 (record { follow = f.follow; wait = f.wait }) d s,
       )
-  serves_part (TaskFault e ∷ more) old h f d s =
+  serves_part behind (TaskFault e ∷ more) old h f d s =
       let past : Past = printed (more ++ old) in
-      let before : ServesLane logged lane (done ++ (part ++ later)) past = serves_part more old h (record { follow = f.follow.1; wait = f.wait.1 }) d s in (
+      let before : ServesLane logged lane (done ++ (part ++ later)) past = serves_part (Some (TaskFault e)) more old h (record { follow = f.follow.1; wait = f.wait.1 }) d s in (
         by_test (e.at.lane.0 == lane) (λ b. OnLane b (Fits (due logged past) (done ++ (part ++ later)) past e.at (command_at (done ++ (part ++ later)) e.at) e.event))
             (λ same.
             let asks = merge_command logged lane (done ++ (part ++ later)) e.at past (eqb-true e.at.lane.0 lane same) before (merging_there e.at e.event past f.follow.0) in
@@ -207,7 +216,7 @@ module _ (logged : Bool) (lane : ℕ) (done part later : List Line) (apart : (at
             (λ other. tt),
         before,
       )
-  serves_part (Kept i ∷ more) old h f d s = serves_part more old h (record { follow = f.follow; wait = f.wait }) d s
+  serves_part behind (Kept i ∷ more) old h f d s = serves_part (Some (Kept i)) more old h (record { follow = f.follow; wait = f.wait }) d s
 
   -- an answer `none` that is so among the lines of the part is so among all
   none_in : (ops : List Op) (at : At) (log : Log) (e : Event) (o : Option LineCommand) → command_at part at ≡ o → Fits ops part (printed log) at o e → NoneIsSo o log e
@@ -217,23 +226,41 @@ module _ (logged : Bool) (lane : ℕ) (done part later : List Line) (apart : (at
       let found : command_at (done ++ (part ++ later)) at ≡ Some c = command_past done (part ++ later) at (apart at c is) ∙ command_in part later at c is in
       λ asks. none (sym found ∙ asks)
 
-  pub none_part : (more old : Log) → ServesSince logged lane part more old → NoneOnLane lane (done ++ (part ++ later)) old → NoneOnLane lane (done ++ (part ++ later)) (more ++ old)
-  none_part [] old h n = n
-  none_part (Shown e ∷ more) old h n = (
+  pub none_part : (behind : Option Mark) (more old : Log) → ServesSince logged lane part behind more old → NoneOnLane lane (done ++ (part ++ later)) old → NoneOnLane lane (done ++ (part ++ later)) (more ++ old)
+  none_part behind [] old h n = n
+  none_part behind (Shown e ∷ more) old h n = (
     on_map (e.at.lane.0 == lane) _ _ (λ same owed. none_in (due logged (printed (more ++ old))) e.at (more ++ old) e.event (command_at part e.at) refl owed.0 owed.1) h.0,
-    none_part more old h.1 n,
+    none_part (Some (Shown e)) more old h.1 n,
   )
-  none_part (TaskFault e ∷ more) old h n = none_part more old h n
-  none_part (Kept i ∷ more) old h n = none_part more old h n
+  none_part behind (TaskFault e ∷ more) old h n = none_part (Some (TaskFault e)) more old h n
+  none_part behind (Kept i ∷ more) old h n = none_part (Some (Kept i)) more old h n
+
+  -- a merge that takes its first range among the lines of the part takes it among all
+  first_in : (ops : List Op) (at : At) (behind : Option Mark) (past : Past) (e : Event) (o : Option LineCommand) → command_at part at ≡ o → Fits ops part past at o e → FirstIsSo o behind at e
+      → FirstIsSo (command_at (done ++ (part ++ later)) at) behind at e
+  first_in ops at behind past e None is fits first = absurd (fits_nowhere ops part past at e fits)
+  first_in ops at behind past e (Some c) is fits first =
+      let found : command_at (done ++ (part ++ later)) at ≡ Some c = command_past done (part ++ later) at (apart at c is) ∙ command_in part later at c is in
+      subst (λ (o : Option LineCommand). FirstIsSo o behind at e) (sym found) first
+
+  pub first_part : (behind : Option Mark) (more old : Log) → ServesSince logged lane part behind more old → FirstOnLane lane (done ++ (part ++ later)) None old
+      → FirstOnLane lane (done ++ (part ++ later)) behind (more ++ old)
+  first_part behind [] old h s = first_on_any lane (done ++ (part ++ later)) behind old s
+  first_part behind (Shown e ∷ more) old h s = (
+    on_map (e.at.lane.0 == lane) _ _ (λ same owed. first_in (due logged (printed (more ++ old))) e.at behind (printed (more ++ old)) e.event (command_at part e.at) refl owed.0 owed.2) h.0,
+    first_part (Some (Shown e)) more old h.1 s,
+  )
+  first_part behind (TaskFault e ∷ more) old h s = first_part (Some (TaskFault e)) more old h s
+  first_part behind (Kept i ∷ more) old h s = first_part (Some (Kept i)) more old h s
 
 -- ---- lines of the lane that are not of this part stay without an entry
 
-pub fresh_since : (logged : Bool) (lane : ℕ) (part : List Line) (at : At) (more old : Log) → at.lane.0 ≡ lane → has_line part at ≡ false
-    → ServesSince logged lane part more old → FaultsFit logged (more ++ old) → entries_of_line at (printed old) ≡ [] → entries_of_line at (printed (more ++ old)) ≡ []
-fresh_since logged lane part at [] old mine none h f fresh = fresh
-fresh_since logged lane part at (Shown e ∷ more) old mine none h f fresh =
+pub fresh_since : (logged : Bool) (lane : ℕ) (part : List Line) (at : At) (behind : Option Mark) (more old : Log) → at.lane.0 ≡ lane → has_line part at ≡ false
+    → ServesSince logged lane part behind more old → FaultsFit logged (more ++ old) → entries_of_line at (printed old) ≡ [] → entries_of_line at (printed (more ++ old)) ≡ []
+fresh_since logged lane part at behind [] old mine none h f fresh = fresh
+fresh_since logged lane part at behind (Shown e ∷ more) old mine none h f fresh =
     let past : Past = printed (more ++ old) in
-    let ih = fresh_since logged lane part at more old mine none h.1 (record { follow = f.follow; wait = f.wait }) fresh in
+    let ih = fresh_since logged lane part at (Some (Shown e)) more old mine none h.1 (record { follow = f.follow; wait = f.wait }) fresh in
     by_test (same_at e.at at) (λ b. (if b then e ∷ entries_of_line at past else entries_of_line at past) ≡ [])
     (λ same.
     let is : e.at ≡ at = same_at_is e.at at same in
@@ -242,9 +269,9 @@ fresh_since logged lane part at (Shown e ∷ more) old mine none h f fresh =
     let nothing : command_at part e.at ≡ None = ap (command_at part) is ∙ no_command part at none in
     absurd (fits_nowhere (due logged past) part past e.at e.event (subst (λ (o : Option LineCommand). Fits (due logged past) part past e.at o e.event) nothing fits)))
     (λ other. ih)
-fresh_since logged lane part at (TaskFault e ∷ more) old mine none h f fresh =
+fresh_since logged lane part at behind (TaskFault e ∷ more) old mine none h f fresh =
     let past : Past = printed (more ++ old) in
-    let ih = fresh_since logged lane part at more old mine none h (record { follow = f.follow.1; wait = f.wait.1 }) fresh in
+    let ih = fresh_since logged lane part at (Some (TaskFault e)) more old mine none h (record { follow = f.follow.1; wait = f.wait.1 }) fresh in
     ap (λ (t : Bool). if t then e ∷ entries_of_line at past else entries_of_line at past) (fresh_fault at e.at e.event past f.follow.0 ih) ∙ ih
-fresh_since logged lane part at (Kept i ∷ more) old mine none h f fresh =
-    fresh_since logged lane part at more old mine none h (record { follow = f.follow; wait = f.wait }) fresh
+fresh_since logged lane part at behind (Kept i ∷ more) old mine none h f fresh =
+    fresh_since logged lane part at (Some (Kept i)) more old mine none h (record { follow = f.follow; wait = f.wait }) fresh

@@ -1,5 +1,5 @@
 -- Phase after phase of one lane.
-use Rattle.std.proofs.Common.{◌≡◌, ◌&&◌, ◌||◌, ◌==◌, ℕ, ◌+◌, ◌<◌, Bool, true, false, List, [], ◌∷◌, ◌++◌, Some, Option, refl, ap, ◌∙◌, sym, subst, if◌then◌else◌, length, take, drop, get_or, suc, add-one, drop-cons}
+use Rattle.std.proofs.Common.{◌≡◌, ◌&&◌, ◌||◌, ◌==◌, ℕ, ◌+◌, ◌<◌, Bool, true, false, List, [], ◌∷◌, ◌++◌, Some, Option, refl, ap, ◌∙◌, sym, subst, if◌then◌else◌, length, take, drop, get_or, suc, add-one, drop-cons, None}
 use Rattle.std.specs.List.{list_all}
 use Rattle.std.proofs.lemmas.Grind.{flat_map-append}
 use Rattle.std.proofs.lemmas.List.{take-append-drop, take_more}
@@ -20,14 +20,15 @@ use Rattle.script_serving.specs.Form.{is_phase, are_ascending}
 use Rattle.script_serving.specs.Replays.{due}
 use Rattle.script_serving.specs.Serves.{is_merge_fault}
 use Rattle.script_serving.proofs.ServingLemmas.{in_front}
+use Rattle.history_book.specs.declared.inner.Mark.{Mark}
 use Rattle.history_book.specs.declared.inner.Mark.TheVariants.{Shown, TaskFault, Kept}
 use Rattle.history_book.specs.Log.{Log, printed, FollowsMerging}
 use Rattle.lane_threads.specs.Owes.{FaultsFit}
 use Rattle.lane_threads.specs.Walks.{OnLane, NoneOf, ServesSince, GrowsByOthers, AreUnbegun, ArePart}
-use Rattle.lane_threads.specs.Phases.{lines_in, lane_lines, ArePhasesInForm, ServesLane, ServesLanePhases, NoneOnLane, LaneServes, LaneReady, PhaseDone}
+use Rattle.lane_threads.specs.Phases.{lines_in, lane_lines, ArePhasesInForm, ServesLane, ServesLanePhases, NoneOnLane, FirstOnLane, LaneServes, LaneReady, PhaseDone}
 use Rattle.lane_threads.proofs.WalkLemmas.{other_lane, on_other, on_map, none_serves, all_answered_stays}
 use Rattle.lane_threads.proofs.StayLemmas.{merging_there}
-use Rattle.lane_threads.proofs.PartLemmas.{IsMergeAt, has_command, fits_line, merge_command, serves_part, none_part, fresh_since}
+use Rattle.lane_threads.proofs.PartLemmas.{IsMergeAt, has_command, fits_line, merge_command, serves_part, none_part, first_part, fresh_since}
 use Rattle.lane_threads.proofs.FormLemmas.{answered-append, answered_front, answered_back, command_of_lane, line_of_phase, line_behind, ascending_back, ascending_front, lane_answered, under_owned, lane_owned}
 
 -- ---- lines without entries
@@ -46,13 +47,13 @@ fresh_at_first (l ∷ ls) = (refl, fresh_at_first ls)
 
 -- lines of the lane that are none of a part's stay without an entry while the part is done
 pub fresh_beyond : (logged : Bool) (lane : ℕ) (part all ls : List Line) (more old : Log) → ((at : At) → has_line ls at ≡ true → has_line all at ≡ true)
-    → list_all (λ line. line.at.lane.0 == lane) ls ≡ true → are_ascending (part ++ all) ≡ true → ServesSince logged lane part more old
+    → list_all (λ line. line.at.lane.0 == lane) ls ≡ true → are_ascending (part ++ all) ≡ true → ServesSince logged lane part None more old
     → FaultsFit logged (more ++ old) → AreUnbegun ls (printed old) → AreUnbegun ls (printed (more ++ old))
 fresh_beyond logged lane part all [] more old sub own asc s f fresh = tt
 fresh_beyond logged lane part all (l ∷ ls) more old sub own asc s f fresh =
     let parts = and_parts (l.at.lane.0 == lane) (list_all (λ line. line.at.lane.0 == lane) ls) own in
     let there : has_line all l.at ≡ true = sub l.at (or_left (same_at l.at l.at) (has_line ls l.at) (same_at_self l.at)) in (
-      fresh_since logged lane part l.at more old (eqb-true l.at.lane.0 lane parts.0) (line_behind part all l.at asc there) s f fresh.0,
+      fresh_since logged lane part l.at None more old (eqb-true l.at.lane.0 lane parts.0) (line_behind part all l.at asc there) s f fresh.0,
       fresh_beyond logged lane part all ls more old (λ at h. sub at (or_right (same_at l.at at) (has_line ls at) h)) parts.1 asc s f fresh.1,
     )
 
@@ -100,19 +101,26 @@ module _ (logged : Bool) (lane : ℕ) (phases before after : List Phase) (phase 
       line_behind (lane_lines lane before) _ at ordered
       (in_front (lines_under lane phase.lanes) (lane_lines lane after) at (has_command (lines_under lane phase.lanes) at c h))
 
-  serves_on : (more old : Log) → ServesSince logged lane (lines_under lane phase.lanes) more old → FaultsFit logged (more ++ old)
+  serves_on : (behind : Option Mark) (more old : Log) → ServesSince logged lane (lines_under lane phase.lanes) behind more old → FaultsFit logged (more ++ old)
       → all_answered (lines_in before) (printed old) ≡ true → ServesLane logged lane (lane_lines lane phases) (printed old)
       → ServesLane logged lane (lane_lines lane phases) (printed (more ++ old))
-  serves_on more old h f d s =
+  serves_on behind more old h f d s =
       subst (λ (ls : List Line). ServesLane logged lane ls (printed (more ++ old))) (sym whole_is)
-      (serves_part logged lane (lane_lines lane before) (lines_under lane phase.lanes) (lane_lines lane after) not_before more old h f
+      (serves_part logged lane (lane_lines lane before) (lines_under lane phase.lanes) (lane_lines lane after) not_before behind more old h f
       (lane_answered lane before (printed old) d) (subst (λ (ls : List Line). ServesLane logged lane ls (printed old)) whole_is s))
 
-  none_on : (more old : Log) → ServesSince logged lane (lines_under lane phase.lanes) more old → NoneOnLane lane (lane_lines lane phases) old → NoneOnLane lane (lane_lines lane phases) (more ++ old)
+  none_on : (more old : Log) → ServesSince logged lane (lines_under lane phase.lanes) None more old → NoneOnLane lane (lane_lines lane phases) old → NoneOnLane lane (lane_lines lane phases) (more ++ old)
   none_on more old h n =
       subst (λ (ls : List Line). NoneOnLane lane ls (more ++ old)) (sym whole_is)
-      (none_part logged lane (lane_lines lane before) (lines_under lane phase.lanes) (lane_lines lane after) not_before more old h
+      (none_part logged lane (lane_lines lane before) (lines_under lane phase.lanes) (lane_lines lane after) not_before None more old h
       (subst (λ (ls : List Line). NoneOnLane lane ls old) whole_is n))
+
+  first_on : (more old : Log) → ServesSince logged lane (lines_under lane phase.lanes) None more old → FirstOnLane lane (lane_lines lane phases) None old
+      → FirstOnLane lane (lane_lines lane phases) None (more ++ old)
+  first_on more old h s =
+      subst (λ (ls : List Line). FirstOnLane lane ls None (more ++ old)) (sym whole_is)
+      (first_part logged lane (lane_lines lane before) (lines_under lane phase.lanes) (lane_lines lane after) not_before None more old h
+      (subst (λ (ls : List Line). FirstOnLane lane ls None old) whole_is s))
 
   in_phase_here : (at : At) (past : Past) (b : Bool) → has_line (lines_under lane phase.lanes) at ≡ true → all_answered (lines_in before) past ≡ true
       → (b || earlier_phases_answered phases at past) ≡ true
@@ -120,26 +128,26 @@ module _ (logged : Bool) (lane : ℕ) (phases before after : List Phase) (phase 
       or_right b _ (subst (λ (ps : List Phase). earlier_phases_answered ps at past ≡ true) (sym split)
       (earlier_phases before after phase at past d (line_of_phase lane phase at h)))
 
-  phases_on : (more old : Log) → ServesSince logged lane (lines_under lane phase.lanes) more old → FaultsFit logged (more ++ old)
+  phases_on : (behind : Option Mark) (more old : Log) → ServesSince logged lane (lines_under lane phase.lanes) behind more old → FaultsFit logged (more ++ old)
       → all_answered (lines_in before) (printed old) ≡ true → ServesLane logged lane (lane_lines lane phases) (printed old)
       → ServesLanePhases lane (lines_in phases) phases (printed old) → ServesLanePhases lane (lines_in phases) phases (printed (more ++ old))
-  phases_on [] old h f d s p = p
-  phases_on (Shown e ∷ more) old h f d s p =
+  phases_on behind [] old h f d s p = p
+  phases_on behind (Shown e ∷ more) old h f d s p =
       let past : Past = printed (more ++ old) in (
         on_map (e.at.lane.0 == lane) _ _ (λ same owed.
             in_phase_here e.at past (is_merge_fault (command_at (lines_in phases) e.at) e.event)
             (fits_line (due logged past) (lines_under lane phase.lanes) past e.at e.event owed.0) (all_answered_stays (lines_in before) more old d)) h.0,
-        phases_on more old h.1 (record { follow = f.follow; wait = f.wait }) d s p,
+        phases_on (Some (Shown e)) more old h.1 (record { follow = f.follow; wait = f.wait }) d s p,
       )
-  phases_on (TaskFault e ∷ more) old h f d s p =
+  phases_on behind (TaskFault e ∷ more) old h f d s p =
       let past : Past = printed (more ++ old) in
       let fit : FaultsFit logged (more ++ old) = record { follow = f.follow.1; wait = f.wait.1 } in (
         by_test (e.at.lane.0 == lane) (λ b. OnLane b ((is_merge_fault (command_at (lines_in phases) e.at) e.event || earlier_phases_answered phases e.at past) ≡ true))
-            (λ same. merge_in_phase logged lane phases e.at e.event past form.under (eqb-true e.at.lane.0 lane same) (serves_on more old h fit d s) f.follow.0)
+            (λ same. merge_in_phase logged lane phases e.at e.event past form.under (eqb-true e.at.lane.0 lane same) (serves_on (Some (TaskFault e)) more old h fit d s) f.follow.0)
             (λ other. tt),
-        phases_on more old h fit d s p,
+        phases_on (Some (TaskFault e)) more old h fit d s p,
       )
-  phases_on (Kept i ∷ more) old h f d s p = phases_on more old h (record { follow = f.follow; wait = f.wait }) d s p
+  phases_on behind (Kept i ∷ more) old h f d s p = phases_on (Some (Kept i)) more old h (record { follow = f.follow; wait = f.wait }) d s p
 
   after_owned : list_all is_phase after ≡ true
   after_owned =
@@ -159,10 +167,11 @@ module _ (logged : Bool) (lane : ℕ) (phases before after : List Phase) (phase 
       record {
         serves = record {
           serves = subst (λ (l : Log). ServesLane logged lane (lane_lines lane phases) (printed l)) (sym is)
-              (serves_on more old done.goes.serves faults ready.answered ready.serves.serves);
+              (serves_on None more old done.goes.serves faults ready.answered ready.serves.serves);
           in_phase = subst (λ (l : Log). ServesLanePhases lane (lines_in phases) phases (printed l)) (sym is)
-              (phases_on more old done.goes.serves faults ready.answered ready.serves.serves ready.serves.in_phase);
+              (phases_on None more old done.goes.serves faults ready.answered ready.serves.serves ready.serves.in_phase);
           none = subst (λ (l : Log). NoneOnLane lane (lane_lines lane phases) l) (sym is) (none_on more old done.goes.serves ready.serves.none);
+          first = subst (λ (l : Log). FirstOnLane lane (lane_lines lane phases) None l) (sym is) (first_on more old done.goes.serves ready.serves.first);
         };
         answered = subst (λ (ls : List Line). all_answered ls (printed new) ≡ true) (sym (flat_map-append lines_of_phase before (phase ∷ [])))
             (answered-append (lines_in before) (lines_of_phase phase ++ []) (printed new) stays
@@ -178,7 +187,7 @@ module _ (logged : Bool) (lane : ℕ) (phases before after : List Phase) (phase 
 pub ready_first : (logged : Bool) (lane : ℕ) (phases : List Phase) → LaneReady logged lane phases [] phases []
 ready_first logged lane phases =
     record {
-      serves = record { serves = tt; in_phase = tt; none = tt };
+      serves = record { serves = tt; in_phase = tt; none = tt; first = tt };
       answered = refl;
       fresh = fresh_at_first (lane_lines lane phases);
       faults = record { follow = tt; wait = tt };
@@ -232,7 +241,7 @@ module _ (logged : Bool) (lane : ℕ) (phases : List Phase) (form : ArePhasesInF
 serves_apart_on : (logged : Bool) (lane : ℕ) (lines : List Line) (more old : Log) → NoneOf lane more → FaultsFit logged (more ++ old)
     → ServesLane logged lane lines (printed old) → ServesLane logged lane lines (printed (more ++ old))
 serves_apart_on logged lane lines more old h f s =
-    serves_part logged lane [] [] lines (λ at c e. absurd (cc)) more old (none_serves logged lane [] more old h) f refl s
+    serves_part logged lane [] [] lines (λ at c e. absurd (cc)) None more old (none_serves logged lane [] None more old h) f refl s
 
 phases_apart : (logged : Bool) (lane : ℕ) (phases : List Phase) (more old : Log) → list_all is_phase phases ≡ true → NoneOf lane more → FaultsFit logged (more ++ old)
     → ServesLane logged lane (lane_lines lane phases) (printed old) → ServesLanePhases lane (lines_in phases) phases (printed old)
@@ -260,5 +269,7 @@ serves_apart logged lane phases old new under h s =
       in_phase = subst (λ (l : Log). ServesLanePhases lane (lines_in phases) phases (printed l)) (sym h.log)
           (phases_apart logged lane phases h.more old under h.apart faults s.serves s.in_phase);
       none = subst (λ (l : Log). NoneOnLane lane (lane_lines lane phases) l) (sym h.log)
-          (none_part logged lane [] [] (lane_lines lane phases) (λ at c e. absurd (cc)) h.more old (none_serves logged lane [] h.more old h.apart) s.none);
+          (none_part logged lane [] [] (lane_lines lane phases) (λ at c e. absurd (cc)) None h.more old (none_serves logged lane [] None h.more old h.apart) s.none);
+      first = subst (λ (l : Log). FirstOnLane lane (lane_lines lane phases) None l) (sym h.log)
+          (first_part logged lane [] [] (lane_lines lane phases) (λ at c e. absurd (cc)) None h.more old (none_serves logged lane [] None h.more old h.apart) s.first);
     }

@@ -1,5 +1,5 @@
 -- All lanes together: a phase is done where each lane's part is, and the script is served where each lane has done all phases.
-use Rattle.std.proofs.Common.{◌≡◌, ◌==◌, ℕ, ◌<◌, ◌≤◌, Bool, true, false, List, [], ◌∷◌, refl, ap, ◌∙◌, sym, subst, arith, reverse}
+use Rattle.std.proofs.Common.{◌≡◌, ◌==◌, ℕ, ◌<◌, ◌≤◌, Bool, true, false, List, [], ◌∷◌, refl, ap, ◌∙◌, sym, subst, arith, reverse, Option, Some, None}
 use Rattle.std.specs.List.{AllByRecursion, list_all}
 use Rattle.std.proofs.lemmas.List.{reverse-reverse}
 use Rattle.std.proofs.lemmas.Bool.{and_parts, and_right, true≢false, eqb-true}
@@ -18,11 +18,13 @@ use Rattle.script_serving.specs.Lines.{all_answered, lines_under, lines_of_lane}
 use Rattle.script_serving.specs.Form.{is_under, is_phase, are_apart, IsInForm}
 use Rattle.script_serving.specs.Replays.{due}
 use Rattle.script_serving.specs.Serves.{ServesLanes, ServesPhases, Serves}
+use Rattle.history_book.specs.declared.inner.Mark.{Mark}
 use Rattle.history_book.specs.declared.inner.Mark.TheVariants.{Shown, TaskFault, Kept}
 use Rattle.history_book.specs.Log.{Log, printed, lane_name, has_merging, begins_merge, FaultsFollow}
 use Rattle.lane_threads.specs.Walks.{NoneOf, GrowsByOthers, LinesRan}
 use Rattle.lane_threads.specs.Idle.{NoneIsTold}
-use Rattle.lane_threads.specs.Phases.{lines_in, lane_lines, ArePhasesInForm, ServesLane, ServesLanePhases, NoneOnLane, LaneServes, PhaseDone, HasRanPart, AreOfLanes, LanesEnd, IsHistoryOf}
+use Rattle.lane_threads.specs.Firsts.{FirstIsTold}
+use Rattle.lane_threads.specs.Phases.{lines_in, lane_lines, ArePhasesInForm, ServesLane, ServesLanePhases, NoneOnLane, FirstOnLane, LaneServes, PhaseDone, HasRanPart, AreOfLanes, LanesEnd, IsHistoryOf}
 use Rattle.lane_threads.proofs.WalkLemmas.{lane_self, other_lane, on_other, off_this, answered_in, goes_apart}
 use Rattle.lane_threads.proofs.StayLemmas.{merging_there}
 use Rattle.lane_threads.proofs.FormLemmas.{phase_answered, lane_without}
@@ -99,6 +101,12 @@ none_nothing lane lines (Shown e ∷ log) h = (on_other _ _ (other_lane e.at.lan
 none_nothing lane lines (TaskFault e ∷ log) h = none_nothing lane lines log h.1
 none_nothing lane lines (Kept i ∷ log) h = none_nothing lane lines log h.1
 
+first_nothing : (lane : ℕ) (lines : List Line) (behind : Option Mark) (log : Log) → NoneOf lane log → FirstOnLane lane lines behind log
+first_nothing lane lines behind [] h = tt
+first_nothing lane lines behind (Shown e ∷ log) h = (on_other _ _ (other_lane e.at.lane.0 lane h.0), first_nothing lane lines (Some (Shown e)) log h.1)
+first_nothing lane lines behind (TaskFault e ∷ log) h = first_nothing lane lines (Some (TaskFault e)) log h.1
+first_nothing lane lines behind (Kept i ∷ log) h = first_nothing lane lines (Some (Kept i)) log h.1
+
 none_at_all : (logged : Bool) (lane : ℕ) (phases : List Phase) (log : Log) → NoneOf lane log → FaultsFollow log → LaneServes logged lane phases log
 none_at_all logged lane phases log none faults =
     let nothing : NotOf lane (printed log) = no_entries lane log none faults in
@@ -106,6 +114,7 @@ none_at_all logged lane phases log none faults =
       serves = serves_nothing logged lane (lane_lines lane phases) (printed log) nothing;
       in_phase = phases_nothing lane (lines_in phases) phases (printed log) nothing;
       none = none_nothing lane (lane_lines lane phases) log none;
+      first = first_nothing lane (lane_lines lane phases) None log none;
     }
 
 none_named : (lane : ℕ) (log : Log) → 8 < lane_name lane → AreOfLanes log → NoneOf lane log
@@ -127,6 +136,13 @@ none_together script [] h = tt
 none_together script (Shown e ∷ log) h = (off_this _ _ (lane_self e.at.lane.0) (h e.at.lane.0).0, none_together script log (λ lane. (h lane).1))
 none_together script (TaskFault e ∷ log) h = none_together script log (λ lane. h lane)
 none_together script (Kept i ∷ log) h = none_together script log (λ lane. h lane)
+
+first_together : (script : Script) (behind : Option Mark) (log : Log) → ((lane : ℕ) → FirstOnLane lane (lines_of_lane lane script) behind log) → FirstIsTold script behind log
+first_together script behind [] h = tt
+first_together script behind (Shown e ∷ log) h =
+    (off_this _ _ (lane_self e.at.lane.0) (h e.at.lane.0).0, first_together script (Some (Shown e)) log (λ lane. (h lane).1))
+first_together script behind (TaskFault e ∷ log) h = first_together script (Some (TaskFault e)) log (λ lane. h lane)
+first_together script behind (Kept i ∷ log) h = first_together script (Some (Kept i)) log (λ lane. h lane)
 
 -- where each lane serves, every line has its reply and nothing is left to replay, the script is served
 pub serves_together : (script : Script) (log : Log) (h : History) → IsHistoryOf script.nodes log h → ((lane : ℕ) → LaneServes script.log lane script.phases log)
@@ -163,3 +179,7 @@ script_served script log h form ends is =
 -- and each publish of it that is answered `none` has nothing to take
 pub script_none : (script : Script) (log : Log) → ArePhasesInForm script.phases → LanesEnd script log → NoneIsTold script log
 script_none script log form ends = none_together script log (λ lane. (every_lane script log form ends lane).none)
+
+-- and each merge of it takes the first range that is due
+pub script_first : (script : Script) (log : Log) → ArePhasesInForm script.phases → LanesEnd script log → FirstIsTold script None log
+script_first script log form ends = first_together script None log (λ lane. (every_lane script log form ends lane).first)

@@ -23,6 +23,7 @@ use Rattle.history_book.specs.declared.inner.Mark.TheVariants.{Shown, TaskFault,
 use Rattle.history_book.specs.Log.{Log, printed, name_of, lane_name}
 use Rattle.lane_threads.specs.Owes.{AddsEntries, GoesByLine, FaultsFit, IsSettledLog}
 use Rattle.lane_threads.specs.Idle.{TellsNone}
+use Rattle.lane_threads.specs.Firsts.{TellsFirst}
 use Rattle.lane_threads.specs.Walks.{GrowsByOthers, LineGoes}
 use Rattle.lane_threads.specs.Phases.{AreOfLanes}
 use Rattle.lane_threads.proofs.WalkLemmas.{lane_self, apart_goes, call_goes, goes_then}
@@ -192,21 +193,21 @@ module _ {T X E : Type 0} {g : Ghosts T Mark} (r : Result X E) (logged : Bool) (
         | Err x ↦ λ goes same. same_extends at.lane.0 found new same
       ] goes same
 
-  section_goes : {inside : LaneSeat T Mark g} → HasEntered logged lock at before inside found → GoesByLine logged command at found new → TellsNone command found new → LineGoes logged command at (log_seen before) new
-  section_goes entered goes tells =
+  section_goes : {inside : LaneSeat T Mark g} → HasEntered logged lock at before inside found → GoesByLine logged command at found new → TellsNone command found new → TellsFirst command found new → LineGoes logged command at (log_seen before) new
+  section_goes entered goes tells starts =
       goes_then logged command at (log_seen before) found new (apart_goes logged command at (log_seen before) found entered.apart)
-      (call_goes logged command at found new entered.settled.faults goes tells)
+      (call_goes logged command at found new entered.settled.faults goes tells starts)
 
   -- a section of one call takes its line on
   pub section_taken : {inside : LaneSeat T Mark g} → HasEntered logged lock at before inside found → (FaultsFit logged new → IsLaneSeat logged lock at.lane.0 after) → log_seen after ≡ new
-      → GoesByLine logged command at found new → TellsNone command found new → TakesLineOn logged lock command at before after
-  section_taken entered seat seen goes tells =
-      let line : LineGoes logged command at (log_seen before) new = section_goes entered goes tells in
+      → GoesByLine logged command at found new → TellsNone command found new → TellsFirst command found new → TakesLineOn logged lock command at before after
+  section_taken entered seat seen goes tells starts =
+      let line : LineGoes logged command at (log_seen before) new = section_goes entered goes tells starts in
       record { seat = seat line.faults; goes = subst (LineGoes logged command at (log_seen before)) (sym seen) line }
 
   -- and ends it where the line is answered
   pub section_ended : {inside : LaneSeat T Mark g} → HasEntered logged lock at before inside found → (FaultsFit logged new → IsLaneSeat logged lock at.lane.0 after) → log_seen after ≡ new
-      → GoesByLine logged command at found new → TellsNone command found new → is_answered at (printed new) ≡ true → EndsItsLine logged lock command at before after
-  section_ended entered seat seen goes tells replied =
-      let taken : TakesLineOn logged lock command at before after = section_taken entered seat seen goes tells in
+      → GoesByLine logged command at found new → TellsNone command found new → TellsFirst command found new → is_answered at (printed new) ≡ true → EndsItsLine logged lock command at before after
+  section_ended entered seat seen goes tells starts replied =
+      let taken : TakesLineOn logged lock command at before after = section_taken entered seat seen goes tells starts in
       record { seat = taken.seat; ran = record { goes = taken.goes; replied = subst (λ (l : Log). is_answered at (printed l) ≡ true) (sym seen) replied } }

@@ -1,5 +1,5 @@
 -- The turn of a worker, which has no lines.
-use Rattle.std.proofs.Common.{◌≡◌, ℕ, ◌<◌, Bool, true, false, List, [], refl, sym, subst, arith}
+use Rattle.std.proofs.Common.{◌≡◌, ℕ, ◌<◌, Bool, true, false, List, [], refl, sym, subst, arith, None}
 use Rattle.std.specs.List.{list_all}
 use Rattle.std.proofs.lemmas.Bool.{and_parts}
 use Rattle.std.proofs.lemmas.Bool.Decides.{nat_tests}
@@ -31,7 +31,7 @@ module _ {T : Type 0} {g : Ghosts T Mark} (logged : Bool) (lock : HistLock T Mar
           goes = record {
             more = h.apart.more;
             log = h.apart.log;
-            serves = none_serves logged before.number.0 [] h.apart.more (log_seen before.seat) h.apart.apart;
+            serves = none_serves logged before.number.0 [] None h.apart.more (log_seen before.seat) h.apart.apart;
             faults = h.apart.faults;
           };
           answered = refl;

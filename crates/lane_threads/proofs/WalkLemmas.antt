@@ -1,5 +1,5 @@
 -- A lane's part of the history: what others leave alone, what a call adds, and how parts are joined.
-use Rattle.std.proofs.Common.{◌≡◌, ◌≢◌, ◌&&◌, ◌==◌, ℕ, Bool, true, false, List, [], ◌∷◌, ◌++◌, Some, refl, ap, ◌∙◌, sym, subst, arith, inl, inr, if◌then◌else◌, append_assoc}
+use Rattle.std.proofs.Common.{◌≡◌, ◌≢◌, ◌&&◌, ◌==◌, ℕ, Bool, true, false, List, [], ◌∷◌, ◌++◌, Option, Some, None, refl, ap, ◌∙◌, sym, subst, arith, inl, inr, if◌then◌else◌, append_assoc}
 use Rattle.std.proofs.lemmas.Bool.{and_parts, and_from, or_right, true≢false, false≢true}
 use Rattle.std.proofs.lemmas.List.{append_cancel_right}
 use Rattle.std.proofs.lemmas.Bool.Decides.{nat_tests, eqb_tells}
@@ -7,7 +7,7 @@ use Rattle.nrt_base.specs.declared.numbers.At.{At}
 use Rattle.documents.specs.declared.operation.Op.{Op}
 use Rattle.history_rules.specs.declared.entry.Entry.{Entry}
 use Rattle.history_rules.specs.declared.entry.Event.{Event}
-use Rattle.history_rules.specs.declared.entry.Event.TheVariants.{Fault as Met}
+use Rattle.history_rules.specs.declared.entry.Event.TheVariants.{Fault as Met, Merging}
 use Rattle.history_rules.specs.Nodes.{Past}
 use Rattle.history_rules.specs.Lines.{same_at, is_reply, is_answered}
 use Rattle.script_serving.specs.declared.script.Line.{Line}
@@ -16,10 +16,12 @@ use Rattle.script_serving.specs.declared.script.LineCommand.TheVariants.{Merge}
 use Rattle.script_serving.specs.Lines.{command_at, all_answered, earlier_answered}
 use Rattle.script_serving.specs.Replays.{due}
 use Rattle.script_serving.specs.Serves.{Fits, FitsTurn, SuitsFault}
+use Rattle.history_book.specs.declared.inner.Mark.{Mark}
 use Rattle.history_book.specs.declared.inner.Mark.TheVariants.{Shown, TaskFault, Kept}
 use Rattle.history_book.specs.Log.{Log, printed, lane_name, FaultsFollow}
 use Rattle.lane_threads.specs.Owes.{SuitsOrFault, SuitsOrReplays, AddsEntries, GoesByLine, AddsByTask, GoesByTask, FaultsWait, FaultsFit}
 use Rattle.lane_threads.specs.Idle.{NoneIsSo, NoneAdds, TellsNone}
+use Rattle.lane_threads.specs.Firsts.{FirstIsSo, FirstAdds, TellsFirst}
 use Rattle.lane_threads.specs.Walks.{OnLane, NoneOf, FitsLog, ServesSince, Includes, GrowsByLane, GrowsByOthers, LineGoes}
 
 -- ---- of one lane, or of another
@@ -81,11 +83,11 @@ earlier_stays (l ∷ lines) at more log h =
 
 -- ---- what others append owes nothing to this lane
 
-pub none_serves : (logged : Bool) (lane : ℕ) (lines : List Line) (more old : Log) → NoneOf lane more → ServesSince logged lane lines more old
-none_serves logged lane lines [] old h = tt
-none_serves logged lane lines (Shown e ∷ more) old h = (on_other _ _ (other_lane e.at.lane.0 lane h.0), none_serves logged lane lines more old h.1)
-none_serves logged lane lines (TaskFault e ∷ more) old h = none_serves logged lane lines more old h.1
-none_serves logged lane lines (Kept i ∷ more) old h = none_serves logged lane lines more old h.1
+pub none_serves : (logged : Bool) (lane : ℕ) (lines : List Line) (behind : Option Mark) (more old : Log) → NoneOf lane more → ServesSince logged lane lines behind more old
+none_serves logged lane lines behind [] old h = tt
+none_serves logged lane lines behind (Shown e ∷ more) old h = (on_other _ _ (other_lane e.at.lane.0 lane h.0), none_serves logged lane lines (Some (Shown e)) more old h.1)
+none_serves logged lane lines behind (TaskFault e ∷ more) old h = none_serves logged lane lines (Some (TaskFault e)) more old h.1
+none_serves logged lane lines behind (Kept i ∷ more) old h = none_serves logged lane lines (Some (Kept i)) more old h.1
 
 -- ---- the entries that a call adds are those that the line asks for
 
@@ -104,18 +106,21 @@ fits_of : (ops : List Op) (lines : List Line) (command : LineCommand) (at : At) 
 fits_of [] lines command at past e s h = turn_of lines command at past e s h
 fits_of (op ∷ ops) lines command at past e s h = s
 
-adds_serves : (logged : Bool) (lines : List Line) (command : LineCommand) (at : At) (more old : Log) → command_at lines at ≡ Some command
-    → earlier_answered lines at (printed old) ≡ true → AddsEntries logged command at more old → NoneAdds command more old → ServesSince logged at.lane.0 lines more old
-adds_serves logged lines command at [] old found early h none = tt
-adds_serves logged lines command at (Shown e ∷ more) old found early h none =
+adds_serves : (logged : Bool) (lines : List Line) (command : LineCommand) (at : At) (behind : Option Mark) (more old : Log) → command_at lines at ≡ Some command
+    → earlier_answered lines at (printed old) ≡ true → AddsEntries logged command at more old → NoneAdds command more old → FirstAdds command behind more
+    → ServesSince logged at.lane.0 lines behind more old
+adds_serves logged lines command at behind [] old found early h none first = tt
+adds_serves logged lines command at behind (Shown e ∷ more) old found early h none first =
     let past : Past = printed (more ++ old) in
     let fits : Fits (due logged past) lines past at (command_at lines at) e.event =
     rw found (fits_of (due logged past) lines command at past e.event h.1 (earlier_stays lines at more old early)) in
-    let here : NoneIsSo (command_at lines e.at) (more ++ old) e.event = λ asks. none.0 (sym (ap (command_at lines) h.0 ∙ found) ∙ asks) in
-    let owed : FitsLog logged lines (more ++ old) e = (subst (λ (a : At). Fits (due logged past) lines past a (command_at lines a) e.event) (sym h.0) fits, here) in
-    (on_this _ _ owed, adds_serves logged lines command at more old found early h.2 none.1)
-adds_serves logged lines command at (TaskFault e ∷ more) old found early h none = adds_serves logged lines command at more old found early h.2 none
-adds_serves logged lines command at (Kept i ∷ more) old found early h none = adds_serves logged lines command at more old found early h.1 none
+    let asked : command_at lines e.at ≡ Some command = ap (command_at lines) h.0 ∙ found in
+    let here : NoneIsSo (command_at lines e.at) (more ++ old) e.event = λ asks. none.0 (sym asked ∙ asks) in
+    let merges : FirstIsSo (command_at lines e.at) behind e.at e.event = subst (λ (o : Option LineCommand). FirstIsSo o behind e.at e.event) (sym asked) first.0 in
+    let owed : FitsLog logged lines behind (more ++ old) e = (subst (λ (a : At). Fits (due logged past) lines past a (command_at lines a) e.event) (sym h.0) fits, here, merges) in
+    (on_this _ _ owed, adds_serves logged lines command at (Some (Shown e)) more old found early h.2 none.1 first.1)
+adds_serves logged lines command at behind (TaskFault e ∷ more) old found early h none first = adds_serves logged lines command at (Some (TaskFault e)) more old found early h.2 none first
+adds_serves logged lines command at behind (Kept i ∷ more) old found early h none first = adds_serves logged lines command at (Some (Kept i)) more old found early h.1 none first
 
 adds_follow : (logged : Bool) (command : LineCommand) (at : At) (more old : Log) → FaultsFollow old → AddsEntries logged command at more old → FaultsFollow (more ++ old)
 adds_follow logged command at [] old f h = f
@@ -162,15 +167,29 @@ faults_without_log log h = record { follow = h; wait = nothing_waits log }
 
 -- ---- parts are joined
 
-pub since_append : (logged : Bool) (lane : ℕ) (lines : List Line) (m n old : Log) → ServesSince logged lane lines m (n ++ old)
-    → ServesSince logged lane lines n old → ServesSince logged lane lines (m ++ n) old
-since_append logged lane lines [] n old h k = k
-since_append logged lane lines (Shown e ∷ m) n old h k = (
-  subst (λ (l : Log). OnLane (e.at.lane.0 == lane) (FitsLog logged lines l e)) (sym (append_assoc m n old)) h.0,
-  since_append logged lane lines m n old h.1 k,
+-- where nothing is behind the start of a merge, none is owed of it, and an entry may come behind it
+pub first_any : (command : Option LineCommand) (behind : Option Mark) (at : At) (e : Event) → FirstIsSo command None at e → FirstIsSo command behind at e
+first_any command behind at (Merging seg) h = λ factor asks. let out = (h factor asks).out in absurd (cc (out))
+first_any command behind at e h = tt
+
+since_any : (logged : Bool) (lane : ℕ) (lines : List Line) (behind : Option Mark) (n old : Log) → ServesSince logged lane lines None n old → ServesSince logged lane lines behind n old
+since_any logged lane lines behind [] old h = tt
+since_any logged lane lines behind (Shown e ∷ n) old h = (
+  on_map (e.at.lane.0 == lane) _ _ (λ same owed. (owed.0, owed.1, first_any (command_at lines e.at) behind e.at e.event owed.2)) h.0,
+  h.1,
 )
-since_append logged lane lines (TaskFault e ∷ m) n old h k = since_append logged lane lines m n old h k
-since_append logged lane lines (Kept i ∷ m) n old h k = since_append logged lane lines m n old h k
+since_any logged lane lines behind (TaskFault e ∷ n) old h = h
+since_any logged lane lines behind (Kept i ∷ n) old h = h
+
+pub since_append : (logged : Bool) (lane : ℕ) (lines : List Line) (behind : Option Mark) (m n old : Log) → ServesSince logged lane lines behind m (n ++ old)
+    → ServesSince logged lane lines None n old → ServesSince logged lane lines behind (m ++ n) old
+since_append logged lane lines behind [] n old h k = since_any logged lane lines behind n old k
+since_append logged lane lines behind (Shown e ∷ m) n old h k = (
+  subst (λ (l : Log). OnLane (e.at.lane.0 == lane) (FitsLog logged lines behind l e)) (sym (append_assoc m n old)) h.0,
+  since_append logged lane lines (Some (Shown e)) m n old h.1 k,
+)
+since_append logged lane lines behind (TaskFault e ∷ m) n old h k = since_append logged lane lines (Some (TaskFault e)) m n old h k
+since_append logged lane lines behind (Kept i ∷ m) n old h k = since_append logged lane lines (Some (Kept i)) m n old h k
 
 pub log_then : (a b c m n : Log) → b ≡ m ++ a → c ≡ n ++ b → c ≡ (n ++ m) ++ a
 log_then a b c m n e f = f ∙ (ap (λ (l : Log). n ++ l) e ∙ sym (append_assoc n m a))
@@ -185,21 +204,23 @@ answered_in lines a b h k = subst (λ (l : Log). all_answered lines (printed l) 
 
 pub apart_goes : (logged : Bool) (command : LineCommand) (at : At) (old new : Log) → GrowsByOthers logged at.lane.0 old new → LineGoes logged command at old new
 apart_goes logged command at old new h =
-    record { more = h.more; log = h.log; faults = h.faults; serves = λ lines found early. none_serves logged at.lane.0 lines h.more old h.apart }
+    record { more = h.more; log = h.log; faults = h.faults; serves = λ lines found early. none_serves logged at.lane.0 lines None h.more old h.apart }
 
 pub call_faults : (logged : Bool) (command : LineCommand) (at : At) (old new : Log) → FaultsFit logged old → GoesByLine logged command at old new → FaultsFit logged new
 call_faults logged command at old new faults h = subst (FaultsFit logged) (sym h.log) (adds_faults logged command at h.more old faults h.adds)
 
 pub call_goes : (logged : Bool) (command : LineCommand) (at : At) (old new : Log) → FaultsFit logged old → GoesByLine logged command at old new → TellsNone command old new
-    → LineGoes logged command at old new
-call_goes logged command at old new faults h tells =
+    → TellsFirst command old new → LineGoes logged command at old new
+call_goes logged command at old new faults h tells starts =
     let same : tells.more ≡ h.more = append_cancel_right tells.more h.more old (sym tells.log ∙ h.log) in
     let none : NoneAdds command h.more old = subst (λ (more : Log). NoneAdds command more old) same tells.none in
+    let same_more : starts.more ≡ h.more = append_cancel_right starts.more h.more old (sym starts.log ∙ h.log) in
+    let first : FirstAdds command None h.more = subst (FirstAdds command None) same_more starts.first in
     record {
       more = h.more;
       log = h.log;
       faults = call_faults logged command at old new faults h;
-      serves = λ lines found early. adds_serves logged lines command at h.more old found early h.adds none;
+      serves = λ lines found early. adds_serves logged lines command at None h.more old found early h.adds none first;
     }
 
 pub goes_then : (logged : Bool) (command : LineCommand) (at : At) (old mid new : Log) → LineGoes logged command at old mid → LineGoes logged command at mid new
@@ -212,8 +233,8 @@ goes_then logged command at old mid new h k =
       serves = λ lines found early.
           let early_mid : earlier_answered lines at (printed mid) ≡ true =
           subst (λ (l : Log). earlier_answered lines at (printed l) ≡ true) (sym h.log) (earlier_stays lines at h.more old early) in
-          since_append logged at.lane.0 lines k.more h.more old
-          (subst (λ (l : Log). ServesSince logged at.lane.0 lines k.more l) h.log (k.serves lines found early_mid)) (h.serves lines found early);
+          since_append logged at.lane.0 lines None k.more h.more old
+          (subst (λ (l : Log). ServesSince logged at.lane.0 lines None k.more l) h.log (k.serves lines found early_mid)) (h.serves lines found early);
     }
 
 pub goes_apart : (logged : Bool) (lane : ℕ) (lines : List Line) (a b c : Log) → GrowsByLane logged lane lines a b → GrowsByOthers logged lane b c → GrowsByLane logged lane lines a c
@@ -221,6 +242,6 @@ goes_apart logged lane lines a b c h k =
     record {
       more = k.more ++ h.more;
       log = log_then a b c h.more k.more h.log k.log;
-      serves = since_append logged lane lines k.more h.more a (none_serves logged lane lines k.more (h.more ++ a) k.apart) h.serves;
+      serves = since_append logged lane lines None k.more h.more a (none_serves logged lane lines None k.more (h.more ++ a) k.apart) h.serves;
       faults = k.faults;
     }

@@ -1,4 +1,5 @@
 pub mod Calls
+pub mod Firsts
 pub mod Idle
 pub mod Lanes
 pub mod Owes

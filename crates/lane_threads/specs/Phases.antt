@@ -1,5 +1,5 @@
 -- How far a lane has come in a script of phases, and when all lanes together have served it.
-use Rattle.std.specs.Prelude.{ℕ, ◌≡◌, ◌≤◌, ◌||◌, ◌==◌, List, [], ◌∷◌, Bool, true, ⊤, IsTrue, take, drop, reverse}
+use Rattle.std.specs.Prelude.{ℕ, ◌≡◌, ◌≤◌, ◌||◌, ◌==◌, List, [], ◌∷◌, Bool, true, ⊤, IsTrue, take, drop, reverse, Option, Some, None}
 use Rattle.std.specs.List.{AllByRecursion, flat_map, list_all}
 use Rattle.history_rules.specs.declared.entry.History.{History}
 use Rattle.history_rules.specs.Nodes.{Past}
@@ -10,10 +10,12 @@ use Rattle.script_serving.specs.Lines.{lines_of_phase, lines_under, command_at, 
 use Rattle.script_serving.specs.Form.{is_phase, are_ascending}
 use Rattle.script_serving.specs.Replays.{due}
 use Rattle.script_serving.specs.Serves.{Fits, is_merge_fault}
-use Rattle.history_book.specs.declared.inner.Mark.TheVariants.{Shown}
+use Rattle.history_book.specs.declared.inner.Mark.{Mark}
+use Rattle.history_book.specs.declared.inner.Mark.TheVariants.{Shown, TaskFault, Kept}
 use Rattle.history_book.specs.Log.{Log, printed, name_of}
 use Rattle.lane_threads.specs.Owes.{FaultsFit, IsSettledLog}
 use Rattle.lane_threads.specs.Idle.{NoneIsSo}
+use Rattle.lane_threads.specs.Firsts.{FirstIsSo}
 use Rattle.lane_threads.specs.Walks.{OnLane, Includes, GrowsByLane, GrowsByOthers, AreUnbegun}
 
 -- the lines of phases
@@ -48,11 +50,20 @@ NoneOnLane lane lines [] = ⊤
 NoneOnLane lane lines (Shown e ∷ log) = OnLane (e.at.lane.0 == lane) (NoneIsSo (command_at lines e.at) log e.event) × NoneOnLane lane lines log
 NoneOnLane lane lines (m ∷ log) = NoneOnLane lane lines log
 
+-- each merge of the lane takes the first range that is due; the last entry has this one behind it, or none
+abbrev pub FirstOnLane : ℕ → List Line → Option Mark → Log → Type 0
+FirstOnLane lane lines behind [] = ⊤
+FirstOnLane lane lines behind (Shown e ∷ log) =
+    OnLane (e.at.lane.0 == lane) (FirstIsSo (command_at lines e.at) behind e.at e.event) × FirstOnLane lane lines (Some (Shown e)) log
+FirstOnLane lane lines behind (TaskFault e ∷ log) = FirstOnLane lane lines (Some (TaskFault e)) log
+FirstOnLane lane lines behind (Kept i ∷ log) = FirstOnLane lane lines (Some (Kept i)) log
+
 -- the lane serves the phases so far
 pub record LaneServes (logged : Bool) (lane : ℕ) (phases : List Phase) (log : Log) : Type 0 where
   pub serves : ServesLane logged lane (lane_lines lane phases) (printed log)
   pub in_phase : ServesLanePhases lane (lines_in phases) phases (printed log)
   pub none : NoneOnLane lane (lane_lines lane phases) log
+  pub first : FirstOnLane lane (lane_lines lane phases) None log
 
 -- the lane serves the phases so far, the first of them are done, and of the others no line of the lane has an entry
 pub record LaneReady (logged : Bool) (lane : ℕ) (phases before rest : List Phase) (log : Log) : Type 0 where

@@ -1,5 +1,5 @@
 -- What a lane owes for a part of the history, what a line of it did, and what others leave as it was.
-use Rattle.std.specs.Prelude.{ℕ, ◌≡◌, ◌≢◌, List, [], ◌∷◌, ◌++◌, Bool, true, false, ◌==◌, ⊤, IsTrue, take, drop, Some}
+use Rattle.std.specs.Prelude.{ℕ, ◌≡◌, ◌≢◌, List, [], ◌∷◌, ◌++◌, Bool, true, false, ◌==◌, ⊤, IsTrue, take, drop, Option, Some, None}
 use Rattle.std.specs.List.{AllByRecursion, list_all}
 use Rattle.nrt_base.specs.declared.numbers.At.{At}
 use Rattle.history_rules.specs.declared.entry.Entry.{Entry}
@@ -11,10 +11,12 @@ use Rattle.script_serving.specs.Lines.{command_at, all_answered, earlier_answere
 use Rattle.script_serving.specs.Form.{are_ascending}
 use Rattle.script_serving.specs.Replays.{due}
 use Rattle.script_serving.specs.Serves.{Fits}
+use Rattle.history_book.specs.declared.inner.Mark.{Mark}
 use Rattle.history_book.specs.declared.inner.Mark.TheVariants.{Shown, TaskFault, Kept}
 use Rattle.history_book.specs.Log.{Log, printed, name_of, lane_name}
 use Rattle.lane_threads.specs.Owes.{FaultsFit}
 use Rattle.lane_threads.specs.Idle.{NoneIsSo}
+use Rattle.lane_threads.specs.Firsts.{FirstIsSo}
 
 -- this is owed of an entry that is the lane's
 abbrev pub OnLane : Bool → Type 0 → Type 0
@@ -25,18 +27,20 @@ OnLane false P = ⊤
 abbrev pub NoneOf : ℕ → Log → Type 0
 NoneOf lane more = AllByRecursion (λ m. name_of m ≢ lane_name lane) more
 
--- the entry is one that its line among these asks for, in the line's turn or in a replay; where it answers `none` to a publish, that is so
-abbrev pub FitsLog : Bool → List Line → Log → Entry → Type 0
-FitsLog logged lines log e =
+-- the entry is one that its line among these asks for, in the line's turn or in a replay; where it answers `none` to a publish, that is so, and
+-- where it starts a merge, the entry behind it hands out the first range that is due
+abbrev pub FitsLog : Bool → List Line → Option Mark → Log → Entry → Type 0
+FitsLog logged lines behind log e =
     Fits (due logged (printed log)) lines (printed log) e.at (command_at lines e.at) e.event × NoneIsSo (command_at lines e.at) log e.event
+    × FirstIsSo (command_at lines e.at) behind e.at e.event
 
--- each entry of the lane among the newer ones is one that its line among these asks for
-abbrev pub ServesSince : Bool → ℕ → List Line → Log → Log → Type 0
-ServesSince logged lane lines [] old = ⊤
-ServesSince logged lane lines (Shown e ∷ more) old =
-    OnLane (e.at.lane.0 == lane) (FitsLog logged lines (more ++ old) e) × ServesSince logged lane lines more old
-ServesSince logged lane lines (TaskFault e ∷ more) old = ServesSince logged lane lines more old
-ServesSince logged lane lines (Kept i ∷ more) old = ServesSince logged lane lines more old
+-- each entry of the lane among the newer ones is one that its line among these asks for; the last of them has this one behind it, or none
+abbrev pub ServesSince : Bool → ℕ → List Line → Option Mark → Log → Log → Type 0
+ServesSince logged lane lines behind [] old = ⊤
+ServesSince logged lane lines behind (Shown e ∷ more) old =
+    OnLane (e.at.lane.0 == lane) (FitsLog logged lines behind (more ++ old) e) × ServesSince logged lane lines (Some (Shown e)) more old
+ServesSince logged lane lines behind (TaskFault e ∷ more) old = ServesSince logged lane lines (Some (TaskFault e)) more old
+ServesSince logged lane lines behind (Kept i ∷ more) old = ServesSince logged lane lines (Some (Kept i)) more old
 
 -- the newer entries begin with the older ones
 pub record Includes (old new : Log) : Type 0 where
@@ -47,7 +51,7 @@ pub record Includes (old new : Log) : Type 0 where
 pub record GrowsByLane (logged : Bool) (lane : ℕ) (lines : List Line) (old new : Log) : Type 0 where
   pub more : Log
   pub log : new ≡ more ++ old
-  pub serves : ServesSince logged lane lines more old
+  pub serves : ServesSince logged lane lines None more old
   pub faults : FaultsFit logged new
 
 -- the history goes on by others
@@ -72,7 +76,7 @@ pub record LineGoes (logged : Bool) (command : LineCommand) (at : At) (old new :
   pub faults : FaultsFit logged new
   -- whatever lines the lane has, where this one has the command and is in its turn
   pub serves : (lines : List Line) → command_at lines at ≡ Some command → earlier_answered lines at (printed old) ≡ true
-      → ServesSince logged at.lane.0 lines more old
+      → ServesSince logged at.lane.0 lines None more old
 
 -- others went on, and the line has no entry yet
 pub record StillFresh (logged : Bool) (command : LineCommand) (at : At) (old new : Log) : Type 0 where

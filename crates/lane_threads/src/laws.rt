@@ -1,13 +1,14 @@
 //! Laws of lanes: from what one call adds to the script that all lanes served. Each is a call that does nothing, and what it
 //! ensures is the law. Entries stand newest first.
 
-ghost use Rattle.std.specs.Prelude.{◌≡◌, ℕ, ◌≤◌, ◌+◌, [], true, false, length, slice_get, Some};
+ghost use Rattle.std.specs.Prelude.{◌≡◌, ℕ, ◌≤◌, ◌+◌, [], true, false, length, slice_get, Some, None};
 ghost use Rattle.history_book.specs.Log.{FaultsFollow, printed};
 ghost use Rattle.history_rules.specs.Lines.{entries_of_line};
 ghost use Rattle.script_serving.specs.Form.{is_phase, IsInForm};
 ghost use Rattle.script_serving.specs.Lines.{lines_under};
 ghost use Rattle.script_serving.specs.Serves.{Serves};
 ghost use Rattle.lane_threads.specs.Idle.{TellsNone, NoneIsTold};
+ghost use Rattle.lane_threads.specs.Firsts.{TellsFirst, FirstIsTold};
 ghost use Rattle.lane_threads.specs.Owes.{GoesByLine, GoesByTask, FaultsFit};
 ghost use Rattle.lane_threads.specs.Walks.{GrowsByLane, GrowsByOthers, LineStays, LineGoes, LineRan, StillFresh, AreUnbegun, ArePart, Going, LinesRan};
 ghost use Rattle.lane_threads.specs.Phases.{ArePhasesInForm, LaneServes, LaneReady, LaneReadyAt, PhaseDone, HasRanPart, LanesEnd, IsHistoryOf};
@@ -30,6 +31,7 @@ pub fn call_takes_its_line_on(
     requires faults { FaultsFit logged old.now }
     requires goes { GoesByLine logged command.now at old.now new.now }
     requires none { TellsNone command.now old.now new.now }
+    requires first { TellsFirst command.now old.now new.now }
     ensures { LineGoes logged command.now at old.now new.now }
 {}
 
@@ -225,12 +227,13 @@ pub fn phases_are_in_form(script: &Script)
     ensures { ArePhasesInForm script.now.phases }
 {}
 
-/// Where each of the eight lanes has done all phases, and nobody else appended a printed entry, the script is served, and each publish
-/// that is answered `none` has nothing to take.
+/// Where each of the eight lanes has done all phases, and nobody else appended a printed entry, the script is served, each publish that is
+/// answered `none` has nothing to take, and each merge takes the first range that is due.
 pub fn lanes_serve_the_script(script: &Script, log: &[Mark], h: &History)
     requires form { IsInForm script.now }
     requires ends { LanesEnd script.now log.now }
     requires history { IsHistoryOf script.now.nodes log.now h.now }
     ensures serves { Serves script.now h.now }
     ensures none { NoneIsTold script.now log.now }
+    ensures first { FirstIsTold script.now None log.now }
 {}

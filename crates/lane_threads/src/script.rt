@@ -1,12 +1,13 @@
 //! A whole script: phase after phase.
 
-ghost use Rattle.std.specs.Prelude.{◌≡◌, [], true, false, reverse, IsTrue, IfOk};
+ghost use Rattle.std.specs.Prelude.{◌≡◌, [], true, false, None, reverse, IsTrue, IfOk};
 ghost use Rattle.history_rules.specs.declared.entry.History.{History};
 ghost use Rattle.script_serving.specs.Form.{IsInForm};
 ghost use Rattle.script_serving.specs.Lines.{lines_of};
 ghost use Rattle.script_serving.specs.Serves.{Serves};
 ghost use Rattle.history_book.specs.Log.{name_of};
 ghost use Rattle.lane_threads.specs.Idle.{NoneIsTold};
+ghost use Rattle.lane_threads.specs.Firsts.{FirstIsTold};
 ghost use Rattle.lane_threads.specs.Owes.{IsSettledLog};
 ghost use Rattle.lane_threads.specs.Phases.{IsHistoryOf};
 ghost use Rattle.lane_threads.specs.Parts.{all_run};
@@ -50,8 +51,8 @@ fn is_whole<T: LaneRun>(run: &T, script: &Script) -> bool
 /// Runs a script on a new value, by eight lanes and the script's workers in threads of their own, and answers the value as the script
 /// leaves it.
 ///
-/// Whatever the threads do in between, the history that is left serves the script, and where a publish was answered `none` no merge was
-/// cut over since the last point. It fails only when out of memory.
+/// Whatever the threads do in between, the history that is left serves the script, where a publish was answered `none` no merge was cut over
+/// since the last point, and each merge takes the first range that is due. It fails only when out of memory.
 pub fn run_script<R: Threads + Wait + Sync, T: LaneRun + Send + Drop, Q: RunsLines<T> + Sync>(
     rt: &R,
     alloc: Global,
@@ -68,6 +69,7 @@ pub fn run_script<R: Threads + Wait + Sync, T: LaneRun + Send + Drop, Q: RunsLin
     ensures serves { IfOk result (λ left. (h : History)
         → IsHistoryOf script.now.nodes (T.log left) h → Serves script.now h) }
     ensures none { IfOk result (λ left. NoneIsTold script.now (T.log left)) }
+    ensures first { IfOk result (λ left. FirstIsTold script.now None (T.log left)) }
 {
     names_are_seats::<T>();
     log_is_history(&run);

@@ -110,7 +110,7 @@ tasks_faulted size log b x n kind s = record {
 
 -- and an entry of inner work that hands out no merge and ends none, and ends no task
 pub tasks_kept : (size : ℕ) (log : Log) (b : Board) (i : Inner) → leaves_tasks i ≡ true → TasksShow size log b → TasksShow size (kept i ∷ log) b
-tasks_kept size log b (MergeOut line seg inputs) leaves s = absurd (true≢false (sym leaves))
+tasks_kept size log b (MergeOut line seg inputs sizes) leaves s = absurd (true≢false (sym leaves))
 tasks_kept size log b (MergeEnd seg cut) leaves s = absurd (true≢false (sym leaves))
 tasks_kept size log b (TaskEnd line seg by step counts) leaves s = absurd (true≢false (sym leaves))
 tasks_kept size log b i leaves s = record {
@@ -124,10 +124,10 @@ tasks_kept size log b i leaves s = record {
 }
 
 -- the inputs of a merge that was started are handed out
-pub tasks_noted : (size : ℕ) (log : Log) (b : Board) (line : LineNo) (seg : SegNo) (inputs : List Shown) → has_started seg.0 (printed log) ≡ true → TasksShow size log b → TasksShow size (kept (MergeOut line seg inputs) ∷ log) b
-tasks_noted size log b line seg inputs started s = record {
+pub tasks_noted : (size : ℕ) (log : Log) (b : Board) (line : LineNo) (seg : SegNo) (inputs : List Shown) (sizes : List (Option ℕ)) → has_started seg.0 (printed log) ≡ true → TasksShow size log b → TasksShow size (kept (MergeOut line seg inputs sizes) ∷ log) b
+tasks_noted size log b line seg inputs sizes started s = record {
   lines = s.lines;
-  posted = told_all log (kept (MergeOut line seg inputs) ∷ log) (λ n x is. first_stays (inputs_out n log) (inputs_by n (MergeOut line seg inputs)) x is) b.posted s.posted;
+  posted = told_all log (kept (MergeOut line seg inputs sizes) ∷ log) (λ n x is. first_stays (inputs_out n log) (inputs_by n (MergeOut line seg inputs sizes)) x is) b.posted s.posted;
   noted = λ n some. by n (seg.0 == n) refl some;
   low = s.low;
   paid = let paid = s.paid in omega (arith, paid);
@@ -176,10 +176,10 @@ tasks_ended size log b new line seg taker step counts lines told less done s = r
 -- ---- merges
 
 -- a merge starts under a number that was not drawn before, its inputs are handed out, and the task to build its segment is posted
-pub tasks_begun : (size : ℕ) (log : Log) (b new : Board) (x : At) (seg : SegNo) (inputs : List Shown) → open_merge seg.0 b.rows ≡ None → inputs_out seg.0 log ≡ None → names_drawn (printed log) < segments_of_generation
+pub tasks_begun : (size : ℕ) (log : Log) (b new : Board) (x : At) (seg : SegNo) (inputs : List Shown) (sizes : List (Option ℕ)) → open_merge seg.0 b.rows ≡ None → inputs_out seg.0 log ≡ None → names_drawn (printed log) < segments_of_generation
     → new.rows ≡ b.rows ++ record { seg = seg; line = x.line; spread = None } ∷ [] → new.posted ≡ b.posted ++ posted_merge seg x.line (merge_task seg inputs) ∷ [] → new.counts ≡ b.counts
-    → TasksShow size log b → TasksShow size (kept (MergeOut x.line seg inputs) ∷ shown x (Merging seg) ∷ log) new
-tasks_begun size log b new x seg inputs fresh unnoted low rows posted counts s =
+    → TasksShow size log b → TasksShow size (kept (MergeOut x.line seg inputs sizes) ∷ shown x (Merging seg) ∷ log) new
+tasks_begun size log b new x seg inputs sizes fresh unnoted low rows posted counts s =
     let begun : TasksShow size (shown x (Merging seg) ∷ log) (record { posted = b.posted; rows = new.rows; counts = b.counts }) = record {
       lines = λ n. ap (λ (l : List OpenMerge). line_told (open_merge n l)) rows ∙ (ap line_told (open_end b.rows row n fresh) ∙ by n (seg.0 == n));
       posted = told_all log (shown x (Merging seg) ∷ log) (λ n i is. is) b.posted s.posted;
@@ -189,14 +189,14 @@ tasks_begun size log b new x seg inputs fresh unnoted low rows posted counts s =
       drains = s.drains;
       counts = s.counts;
     } in
-    let handed : TasksShow size now (record { posted = b.posted; rows = new.rows; counts = b.counts }) = tasks_noted size (shown x (Merging seg) ∷ log) (record { posted = b.posted; rows = new.rows; counts = b.counts }) x.line seg inputs
+    let handed : TasksShow size now (record { posted = b.posted; rows = new.rows; counts = b.counts }) = tasks_noted size (shown x (Merging seg) ∷ log) (record { posted = b.posted; rows = new.rows; counts = b.counts }) x.line seg inputs sizes
     (or_left (seg.0 == seg.0) (has_started seg.0 (printed log)) (eq-eqb seg.0 seg.0 refl)) begun in
     tasks_on size now (record { posted = b.posted; rows = new.rows; counts = b.counts }) new (λ n. refl)
     (subst (λ (l : List Posted). All (IsToldTask now) l) (sym posted) (All-push (IsToldTask now) b.posted (posted_merge seg x.line (merge_task seg inputs)) handed.posted (out, refl)))
     (omega arith) counts handed
   where
     now : Log
-    now = kept (MergeOut x.line seg inputs) ∷ shown x (Merging seg) ∷ log
+    now = kept (MergeOut x.line seg inputs sizes) ∷ shown x (Merging seg) ∷ log
 
     row : OpenMerge
     row = record { seg = seg; line = x.line; spread = None }

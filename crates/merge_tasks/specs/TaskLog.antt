@@ -26,7 +26,7 @@ or_first (Some older) (Some mine) = Some older
 
 -- the inputs of the merge into a segment that an entry hands out
 abbrev pub inputs_by : ℕ → Inner → Option (List Shown)
-inputs_by seg (MergeOut line s inputs) = if s.0 == seg then Some inputs else None
+inputs_by seg (MergeOut line s inputs sizes) = if s.0 == seg then Some inputs else None
 inputs_by seg i = None
 
 -- the inputs of the merge into a segment, as they were handed out first
@@ -93,7 +93,7 @@ leaves_merges e p = true
 
 -- the entry of inner work hands out no merge and ends none, and ends no task
 abbrev pub leaves_tasks : Inner → Bool
-leaves_tasks (MergeOut line seg inputs) = false
+leaves_tasks (MergeOut line seg inputs sizes) = false
 leaves_tasks (MergeEnd seg cut) = false
 leaves_tasks (TaskEnd line seg by step counts) = false
 leaves_tasks i = true

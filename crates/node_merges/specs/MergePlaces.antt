@@ -9,7 +9,7 @@ use Rattle.seg_merge.specs.declared.task.MergeTask.{MergeTask}
 use Rattle.seg_merge.specs.declared.task.Merged.{Merged}
 use Rattle.index_primary.specs.declared.parts.PrimaryParts.{PrimaryParts}
 use Rattle.index_primary.specs.declared.parts.PublishFault.{PublishFault}
-use Rattle.cluster_nodes.specs.Given.{IsMadeFor}
+use Rattle.cluster_nodes.specs.Given.{IsMadeFor, merge_sizes}
 use Rattle.cluster_nodes.specs.declared.held.HeldTicket.{HeldTicket}
 use Rattle.cluster_nodes.specs.declared.nodes.Node.TheVariants.{Primary, Replica, Down}
 use Rattle.cluster_nodes.specs.declared.nodes.NodePlace.{NodePlace}
@@ -48,6 +48,11 @@ module _ {D : Type 0} where
     pub replica : ReplicaParts D
     pub moves : MovesOne n (record { node = Replica replica; held = at.held }) old new
     pub step : Step at.parts replica
+
+  -- these are the sizes of the segments of the primary that is there
+  abbrev pub AreSizesAt : Option (NodePlace D) → List (Option ℕ) → Type 0
+  AreSizesAt None sizes = ⊥
+  AreSizesAt (Some place) sizes = elim place.node [ Primary p ↦ sizes ≡ merge_sizes p | Replica r ↦ ⊥ | Down d ↦ ⊥ ]
 
   -- what is next to do for a copy at the node that is there: nothing, where that is no replica
   abbrev pub IsStepAt : ℕ → ℕ → Option (NodePlace D) → CopyStep → Type 0

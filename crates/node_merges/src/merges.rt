@@ -1,19 +1,49 @@
 //! The steps of a merge at the primary.
 
-ghost use Rattle.std.specs.Prelude.{◌≡◌, ◌≤◌, IfOk};
+ghost use Rattle.std.specs.Prelude.{◌≡◌, ◌≤◌, IfOk, Some};
 ghost use Rattle.index_primary.specs.States.{out_of, states_without};
 ghost use Rattle.cluster_nodes.specs.Given.{IsMadeFor};
 ghost use Rattle.cluster_nodes.specs.Places.{place_of, IsSlot, HasPrimary};
 ghost use Rattle.cluster_nodes.specs.Went.{ByWent};
 ghost use Rattle.node_merges.specs.MergeChanges.{AsksMerge, ReadiesMerge, MayCut, CutsMerge, GivesUpMerge};
-ghost use Rattle.node_merges.specs.MergePlaces.{IsPrimaryIn, MovesPrimary};
+ghost use Rattle.node_merges.specs.MergePlaces.{IsPrimaryIn, MovesPrimary, AreSizesAt};
 
 use cluster_nodes::{Node, NodePlace, Primary, PublishFault, Went, is_failed, put, take_primary};
 use copy_state::CopyState;
 use disk_model::Dir;
-use nrt_base::{NoMemory, NodeNo, SegNo};
+use nrt_base::{List, NoMemory, NodeNo, SegNo};
 use seg_merge::{MergeTask, Merged};
 use std::alloc::Global;
+
+// The sizes of the segments of the primary that is there.
+fn sizes_at<D: Dir + Drop>(
+    alloc: Global,
+    place: &NodePlace<D>,
+) -> Result<List<Option<u32>>, NoMemory>
+    requires { HasPrimary (Some place.now) }
+    ensures { IfOk result (AreSizesAt (Some place.now)) }
+{
+    match &place.node {
+        Node::Primary(primary) => primary.sizes(alloc),
+        Node::Replica(_) | Node::Down(_) => unreachable!(),
+    }
+}
+
+/// The sizes of the segments of the primary in this place, of which merges are chosen.
+pub fn sizes_in<D: Dir + Drop>(
+    alloc: Global,
+    places: &Vec<Option<NodePlace<D>>>,
+    p: NodeNo,
+) -> Result<List<Option<u32>>, NoMemory>
+    requires slot { IsSlot places.now.items p.0 }
+    requires primary { HasPrimary (place_of places.now.items p.0) }
+    ensures { IfOk result (AreSizesAt (place_of places.now.items p.0)) }
+{
+    match &places[p.0 as usize - 1] {
+        Some(place) => sizes_at(alloc, place),
+        None => unreachable!(),
+    }
+}
 
 /// Asks the primary in this place for a merge.
 pub fn ask_in<D: Dir + Drop>(

@@ -17,6 +17,12 @@ use Rattle.cluster_merges.proofs.starts.start_merge.Goals as goal
 pub is_fresh-requires : goal.is_fresh-requires
 is_fresh-requires g c = asked_of (λ (l : Log). entries_of_line c.args.at (printed l) ≡ []) c.cluster.view_is c.book-book.ensures.log c.requires.fresh
 
+pub sizes_in-requires-clause-slot : goal.sizes_in-requires-clause-slot
+sizes_in-requires-clause-slot g c = slot_at g.D.Dir.cells c.args.cluster.now _ _ c.args.p.0 _ _ c.cluster.view_is c.requires.running (λ e. (c.cluster.invariant e).0) c.requires.node
+
+pub sizes_in-requires-clause-primary : goal.sizes_in-requires-clause-primary
+sizes_in-requires-clause-primary g c = has_primary_at g.D.Dir.cells c.args.cluster.now c.cluster.inside.ledger c.cluster.inside.places.items c.args.p c.cluster.view_is c.requires.running (λ e. (c.cluster.invariant e).0) c.requires.node c.requires.primary
+
 pub ask_in-requires-clause-slot : goal.ask_in-requires-clause-slot
 ask_in-requires-clause-slot g c = slot_at g.D.Dir.cells c.args.cluster.now _ _ c.args.p.0 _ _ c.cluster.view_is c.requires.running (λ e. (c.cluster.invariant e).0) c.requires.node
 
@@ -59,14 +65,14 @@ pub invariant_of-cluster-2 : goal.invariant_of-cluster-2
 invariant_of-cluster-2 g c = λ running. started_all g.D.Dir.cells c.args.cluster.now c.cluster.inside.places.items c.ask_in.new.places.items c.cluster.inside.ledger c.reserve.new.self c.cluster.inside.tasks c.args.at c.args.p c.args.factor c.ask_in.result c.cluster.view_is c.requires.running c.cluster.invariant
     c.in_ok-reserve.ensures.log c.in_ok-reserve.ensures.nodes c.in_ok-reserve.ensures.cut (legal_of c.book-book.ensures.nodes c.book-book.ensures.log c.is_legal.ensures.legal) (turns_of c.book-book.ensures.log c.is_legal.ensures.turns) (fresh_of c.book-book.ensures.log c.is_fresh.ensures)
     c.requires.node c.requires.primary c.ask_in.ensures c.in-Ok-Some.task (c.in-Ok-Some.is ∙ ap Ok c.in-Ok-Some.field-0-is)
-    c.show_merging.new.self c.keep.new.self c.in_ok-inputs.inputs c.begin.new.self c.in_ok-inputs.ensures c.show_merging.ensures.log c.show_merging.ensures.nodes c.show_merging.ensures.cut
+    c.show_merging.new.self c.keep.new.self c.in_ok-inputs.inputs c.in_ok-sizes.sizes c.begin.new.self c.in_ok-inputs.ensures c.in_ok-sizes.ensures c.show_merging.ensures.log c.show_merging.ensures.nodes c.show_merging.ensures.cut
     c.keep.ensures.log c.keep.ensures.nodes c.keep.ensures.cut c.in_ok-begin.ensures.rows c.in_ok-begin.ensures.posted c.begin.ensures.counts
 
 pub returns-clause-ok : goal.returns-clause-ok
 returns-clause-ok g c = begins_merge g.D.Dir.cells c.args.cluster.now c.cluster.inside.places.items c.ask_in.new.places.items c.cluster.inside.ledger c.reserve.new.self c.cluster.inside.tasks c.args.at c.args.p c.args.factor c.ask_in.result c.cluster.view_is c.requires.running c.cluster.invariant
     c.in_ok-reserve.ensures.log c.in_ok-reserve.ensures.nodes c.in_ok-reserve.ensures.cut (legal_of c.book-book.ensures.nodes c.book-book.ensures.log c.is_legal.ensures.legal) (turns_of c.book-book.ensures.log c.is_legal.ensures.turns) (fresh_of c.book-book.ensures.log c.is_fresh.ensures)
     c.requires.node c.requires.primary c.ask_in.ensures c.in-Ok-Some.task (c.in-Ok-Some.is ∙ ap Ok c.in-Ok-Some.field-0-is)
-    c.show_merging.new.self c.keep.new.self c.in_ok-inputs.inputs c.begin.new.self c.in_ok-inputs.ensures c.show_merging.ensures.log c.show_merging.ensures.nodes c.show_merging.ensures.cut
+    c.show_merging.new.self c.keep.new.self c.in_ok-inputs.inputs c.in_ok-sizes.sizes c.begin.new.self c.in_ok-inputs.ensures c.in_ok-sizes.ensures c.show_merging.ensures.log c.show_merging.ensures.nodes c.show_merging.ensures.cut
     c.keep.ensures.log c.keep.ensures.nodes c.keep.ensures.cut c.in_ok-begin.ensures.rows c.in_ok-begin.ensures.posted c.begin.ensures.counts
 
 pub returns-in-Ok-None-clause-rest : goal.returns-in-Ok-None-clause-rest

@@ -15,7 +15,7 @@ pub returns-clause-serves : goal.returns-clause-serves
 returns-clause-serves g c = left_serves c.args.script.now c.in_ok-left.left c.into_cluster-cluster.result c.in_ok-left.ensures.setup c.in_ok-left.ensures.serves c.into_cluster-cluster.ensures
 
 pub returns-clause-told : goal.returns-clause-told
-returns-clause-told g c = left_tells c.args.script.now c.in_ok-left.left c.into_cluster-cluster.result c.ended.ensures.told c.in_ok-left.ensures.none c.into_cluster-cluster.ensures
+returns-clause-told g c = left_tells c.args.script.now c.in_ok-left.left c.into_cluster-cluster.result c.ended.ensures.told c.in_ok-left.ensures.none c.in_ok-left.ensures.first c.into_cluster-cluster.ensures
 
 pub sent-requires-5-send-T : goal.sent-requires-5-send-T
 sent-requires-5-send-T g c κs =

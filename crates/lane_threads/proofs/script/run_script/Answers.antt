@@ -8,7 +8,7 @@ use Rattle.lane_threads.proofs.Crews.{may_run, phases_on}
 use Rattle.lane_threads.proofs.PhaseLemmas.{phase_form}
 use Rattle.lane_threads.proofs.ScriptLemmas.{form_of}
 use Rattle.lane_threads.proofs.Seatings.{crew_first, crew_ready, joined_first}
-use Rattle.lane_threads.proofs.Endings.{script_left, none_left, phases_back}
+use Rattle.lane_threads.proofs.Endings.{script_left, none_left, first_left, phases_back}
 use Rattle.lane_threads.proofs.script.run_script.Goals as goal
 
 pub new-requires : goal.new-requires
@@ -70,4 +70,12 @@ returns-clause-none g c =
     let end : c.loop-phase.phase-index ≡ length c.args.script.now.phases = (let last = c.loop-phase-test.false in let count = ap length c.as_slice-phase-items.ensures in let within = c.loop-phase.invariant.1 in omega (arith, last, count, within)) in
     let all = subst (λ (k : ℕ). ArePhasesDone c.args.script.now.log c.in_ok-lock.lock (length c.in_ok-lanes.lanes.items) c.args.script.now.phases k c.loop-phase.hub c.loop-phase.lanes.items) end c.loop-phase.invariant.0 in
     none_left c.names_are_seats.ensures c.in_ok-lock.lock c.args.script.now (length c.in_ok-lanes.lanes.items) c.loop-phase.hub c.disband.new.hub c.loop-phase.lanes.items (g.T.LaneRun.log left) all c.disband.ensures
+    (g.T.Grows.history left) c.log_is_history-2.ensures c.close-left.ensures (c.if-not-is_whole.ensures.settled refl) c.requires.form
+
+pub returns-clause-first : goal.returns-clause-first
+returns-clause-first g c =
+    let left = c.close-left.result in
+    let end : c.loop-phase.phase-index ≡ length c.args.script.now.phases = (let last = c.loop-phase-test.false in let count = ap length c.as_slice-phase-items.ensures in let within = c.loop-phase.invariant.1 in omega (arith, last, count, within)) in
+    let all = subst (λ (k : ℕ). ArePhasesDone c.args.script.now.log c.in_ok-lock.lock (length c.in_ok-lanes.lanes.items) c.args.script.now.phases k c.loop-phase.hub c.loop-phase.lanes.items) end c.loop-phase.invariant.0 in
+    first_left c.names_are_seats.ensures c.in_ok-lock.lock c.args.script.now (length c.in_ok-lanes.lanes.items) c.loop-phase.hub c.disband.new.hub c.loop-phase.lanes.items (g.T.LaneRun.log left) all c.disband.ensures
     (g.T.Grows.history left) c.log_is_history-2.ensures c.close-left.ensures (c.if-not-is_whole.ensures.settled refl) c.requires.form

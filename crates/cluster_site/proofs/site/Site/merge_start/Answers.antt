@@ -1,18 +1,21 @@
 use Rattle.std.proofs.Common.{refl, subst}
 use Rattle.std.specs.Prelude.{OnErr, OnOk}
+use Rattle.std.proofs.lemmas.Result.{on_ok_weaker}
 use Rattle.script_serving.specs.declared.script.LineCommand.TheVariants.{Merge}
 use Rattle.cluster_state.specs.Run.{IsEnded}
 use Rattle.cluster_merges.specs.TaskCalls.{MergeLine}
 use Rattle.cluster_merges.specs.MergesKept.{KeepsButSizes}
-use Rattle.cluster_site.proofs.Stands.{call_stands, call_does}
+use Rattle.lane_threads.proofs.IdleLemmas.{apart_none}
+use Rattle.cluster_site.proofs.Stands.{line_stands, line_does}
 use Rattle.cluster_site.specs.Sites.{SiteRun}
 use Rattle.cluster_site.proofs.site.Site.merge_start.Goals as goal
 
 pub invariant_of-self : goal.invariant_of-self
-invariant_of-self g c = call_stands g.D.Dir.cells g.D.Dir.plans c.self.inside.cluster c.merge_start.new.self c.self.inside.log c.args.self.now c.self.view_is c.requires.running c.self.invariant (Merge c.args.factor) c.args.at refl c.merge_start.result c.merge_start.ensures.does c.merge_start.ensures.err
+invariant_of-self g c = line_stands g.D.Dir.cells g.D.Dir.plans c.self.inside.cluster c.merge_start.new.self c.self.inside.log c.args.self.now c.self.view_is c.requires.running c.self.invariant (Merge c.args.factor) c.args.at refl c.merge_start.result c.merge_start.ensures.does c.merge_start.ensures.err
 
 pub returns-clause-does : goal.returns-clause-does
-returns-clause-does g c = call_does g.D.Dir.cells g.D.Dir.plans c.self.inside.cluster c.merge_start.new.self c.self.inside.log c.args.self.now c.self.view_is c.requires.running c.self.invariant (Merge c.args.factor) c.args.at refl c.merge_start.result c.merge_start.ensures.does
+returns-clause-does g c = line_does g.D.Dir.cells g.D.Dir.plans c.self.inside.cluster c.merge_start.new.self c.self.inside.log c.args.self.now c.self.view_is c.requires.running c.self.invariant (Merge c.args.factor) c.args.at refl c.merge_start.result
+    (on_ok_weaker c.merge_start.result (λ does. apart_none (Merge c.args.factor) _ _ _ refl does.goes) c.merge_start.ensures.does) c.merge_start.ensures.first c.merge_start.ensures.does
 
 -- ---- as the cluster says
 
