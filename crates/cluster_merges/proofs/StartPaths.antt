@@ -195,7 +195,11 @@ module _ {D : Type 0} (cells : D → Cells) (r : Run) (old new : List (Option (N
 
     -- the merge takes the first range by the sizes that callers are told
     takes : TakesFirst factor r.rest.sizes task.inputs
-    takes = subst (λ (l : List (Option ℕ)). TakesFirst factor l task.inputs) (sym sizes) (record { from = starts.start.from; first = starts.start.first; taken = taken })
+    takes = record {
+      from = starts.start.from;
+      first = subst (λ (l : List (Option ℕ)). IsFirstRange factor l starts.start.from) (sym sizes) starts.start.first;
+      taken = ap (λ (l : List (Option ℕ)). take factor (drop starts.start.from l)) sizes ∙ taken;
+    }
 
     pub merging_rule : MayStartMerge (printed b0.log) at task.seg
     merging_rule = record { running = λ none. some_none (sym primary0 ∙ none); next = next; unspent = names; spared = fresh.spared }
