@@ -1,6 +1,6 @@
 -- A job, and what is of documents, over calls beside them.
 use Rattle.replica_node.proofs.Cores.{IsCore}
-use Rattle.std.proofs.Common.{◌≡◌, ◌∙◌, ℕ, ◌+◌, ◌<◌, true, List, [], ◌++◌, Option, Some, None, refl, sym, subst, arith}
+use Rattle.std.proofs.Common.{◌≡◌, ◌∙◌, ℕ, ◌<◌, true, List, [], ◌++◌, Option, Some, None, refl, sym, subst, arith}
 use Rattle.std.specs.Prelude.{IfSome, Contains}
 use Rattle.std.specs.List.{flat_map}
 use Rattle.disk_model.specs.Disk.{Name, Cells, is_among, reads_of}

@@ -1,5 +1,5 @@
 -- A copy holds no temporary file of another.
-use Rattle.std.proofs.Common.{◌≡◌, ◌≢◌, ◌^◌, ◌<◌, ◌≤◌, ℕ, zero, suc, refl, sym, List, [], ◌∷◌, Option, Some, subst, arith}
+use Rattle.std.proofs.Common.{◌≡◌, ◌≢◌, ◌^◌, ◌<◌, ℕ, zero, suc, refl, List, [], ◌∷◌, Option, Some, subst, arith}
 use Rattle.std.specs.Prelude.{IfSome}
 use Rattle.std.specs.List.{AllByRecursion}
 use Rattle.file_names.specs.Names.{temp_name_of}

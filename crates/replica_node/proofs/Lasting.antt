@@ -1,7 +1,7 @@
 -- Files of infos are none of a commit and none that are being copied.
 use Rattle.std.proofs.Common.{◌≡◌, ◌<◌, false, List}
 use Rattle.std.specs.Prelude.{Contains}
-use Rattle.std.specs.List.{flat_map, All}
+use Rattle.std.specs.List.{flat_map}
 use Rattle.std.proofs.lemmas.List.Elements.{All-contains}
 use Rattle.file_names.specs.Names.{is_commit_name, is_pending_name}
 use Rattle.disk_model.specs.Disk.{Name}

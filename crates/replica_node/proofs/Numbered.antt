@@ -25,10 +25,6 @@ pub point_number : (number : ℕ) (job : Option PointJob) → is_job_number numb
 point_number number None e = tt
 point_number number (Some j) e = eqb-true j.copy.number number (and_parts (not j.stopped) (j.copy.number == number) e).1
 
-pub point_some : (number : ℕ) (job : Option PointJob) → is_job_number number job ≡ true → IsSome job
-point_some number None e = absurd (no_point number e)
-point_some number (Some j) e = refl
-
 pub point_all : (P : Job → Type 0) (number : ℕ) (job : Option PointJob) (other : Option Job) → is_job_number number job ≡ true → IfSome (if is_job_number number job then option_map (λ (j : PointJob). j.copy) job else other) P → IfSome job (λ j. P j.copy)
 point_all P number None other e h = tt
 point_all P number (Some j) other e h = subst (λ (b : Bool). IfSome (if b then Some j.copy else other) P) e h
@@ -40,20 +36,6 @@ pub copy_some : (number : ℕ) (job : Option PointJob) (other : Option Job) → 
 copy_some number job other e h = subst (λ (b : Bool). IsSome (if b then option_map (λ (j : PointJob). j.copy) job else other)) e h
 
 -- ---- what the call makes of it
--- what is said under the job's number is said under the number
-pub point_named : {T E : Type 0} (P : ℕ → Type 0) (number : ℕ) (job : Option PointJob) (result : Result T E) → is_job_number number job ≡ true → OnOk result (IfSome job (λ j. P j.copy.number)) → OnOk result (P number)
-point_named P number job result e = on_ok_weaker result (named job e)
-  where
-    named : (o : Option PointJob) → is_job_number number o ≡ true → IfSome o (λ j. P j.copy.number) → P number
-    named None f h = absurd (no_point number f)
-    named (Some j) f h = subst P (point_number number (Some j) f) h
-
-point_made : (number : ℕ) (name : Name) (now job : Option PointJob) (other : Option Job) → is_job_number number job ≡ true → IfSome job (λ j. now ≡ Some (record j { copy = with_part j.copy name }))
-    → IfSome (if is_job_number number job then option_map (λ (j : PointJob). j.copy) job else other) (λ k. now ≡ option_map (λ (j : PointJob). record j { copy = with_part k name }) job)
-point_made number name now None other e h = absurd (no_point number e)
-point_made number name now (Some j) other e h =
-    subst (λ (b : Bool). IfSome (if b then Some j.copy else other) (λ k. now ≡ option_map (λ (i : PointJob). record i { copy = with_part k name }) (Some j))) (sym e) h
-
 if_map : {P Q : Job → Type 0} (o : Option Job) → ((k : Job) → P k → Q k) → IfSome o P → IfSome o Q
 if_map None turns h = tt
 if_map (Some k) turns h = turns k h
@@ -71,17 +53,6 @@ module _ {D : Type 0} (number : ℕ) (old new : ReplicaParts D) where
       let files : old.files ≡ new.files = sym (ap (λ (p : ReplicaParts D). p.files) stopped) in
       stopped ∙ (λ i. record old { dir = dirs i; files = files i; job = option_map stopped_job old.job })
       ∙ sym (ap (λ (b : Bool). record (if b then record old { job = option_map stopped_job old.job } else record old { copies = record old.copies { running = copies_without number old.copies.running } }) { dir = new.dir; files = new.files }) e)
-
-  module _ (e : is_job_number number old.job ≡ true) (others : new ≡ record old { dir = new.dir; files = new.files; job = new.job }) where
-    pub point_ok : {T E : Type 0} (result : Result T E) (name : Name) → OnOk result (IfSome old.job (λ j. new.job ≡ Some (record j { copy = with_part j.copy name })))
-        → OnOk result (IfSome (running_job number old) (λ j. new ≡ record (with_job number (with_part j name) old) { dir = new.dir; files = new.files }))
-    point_ok result name = on_ok_weaker result (λ h. if_map (running_job number old) (λ k made.
-        others ∙ ap (λ (j : Option PointJob). record old { dir = new.dir; files = new.files; job = j }) made
-        ∙ sym (ap (λ (b : Bool). record (if b then record old { job = option_map (λ (j : PointJob). record j { copy = with_part k name }) old.job } else record old { copies = record old.copies { running = copies_with number (with_part k name) old.copies.running } }) { dir = new.dir; files = new.files }) e))
-        (point_made number name new.job old.job (copy_at number old.copies.running) e h))
-
-    pub point_err : {T E : Type 0} (result : Result T E) → OnErr result (new.job ≡ old.job) → OnErr result (new ≡ record old { dir = new.dir; files = new.files })
-    point_err result = on_err_weaker result (λ same. others ∙ ap (λ (j : Option PointJob). record old { dir = new.dir; files = new.files; job = j }) same)
 
   module _ (e : is_job_number number old.job ≡ false) (others : new ≡ record old { dir = new.dir; files = new.files; copies = new.copies }) where
     pub copy_ok : {T E : Type 0} (result : Result T E) (name : Name) → OnOk result (IfSome (copy_at number old.copies.running) (λ c. new.copies ≡ record old.copies { running = copies_with number (with_part c name) old.copies.running }))

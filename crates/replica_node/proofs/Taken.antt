@@ -1,6 +1,6 @@
 -- A replica over a part that arrives.
 use Rattle.std.proofs.Common.{◌≡◌, ℕ, ◌+◌, ◌<◌, ◌≤◌, ◌^◌, List, [], ◌∷◌, Option, Some, refl, sym, ap, subst, ◌∙◌, arith}
-use Rattle.std.specs.Prelude.{IfSome}
+use Rattle.std.specs.Prelude.{IfSome, OnOk, OnErr, Result, Ok, Err}
 use Rattle.std.specs.List.{AllByRecursion}
 use Rattle.std.proofs.lemmas.Option.{same_Some}
 use Rattle.file_names.specs.Names.{temp_name_of}
@@ -167,3 +167,23 @@ module _ {D : Type 0} (cells : D → Cells) (p : ReplicaParts D) (is : IsWholeRe
 
       pub out_held : HoldsOnly p (record p { dir = dir; files = files; job = Some (record { copy = now; infos = j.infos; stopped = j.stopped }) })
       out_held = holds_beside p (record p { dir = dir; files = files; job = Some (record { copy = now; infos = j.infos; stopped = j.stopped }) }) out_other
+
+    -- ---- both, by the result
+    pub part_core : {T E : Type 0} (result : Result T E) → OnOk result (now ≡ with_part j.copy name) → OnErr result (now ≡ j.copy) → IsCore cells (record p { dir = dir; files = files; job = Some (record { copy = now; infos = j.infos; stopped = j.stopped }) })
+    part_core (Ok x) made same = arrived_core made
+    part_core (Err x) made same = out_core same
+
+    pub part_held : {T E : Type 0} (result : Result T E) → OnOk result (now ≡ with_part j.copy name) → OnErr result (now ≡ j.copy) → HoldsOnly p (record p { dir = dir; files = files; job = Some (record { copy = now; infos = j.infos; stopped = j.stopped }) })
+    part_held (Ok x) made same = arrived_held made
+    part_held (Err x) made same = out_held same
+
+    module _ (bytes : List ℕ) where
+      pub part_whole : {T E : Type 0} (result : Result T E) → OnOk result (now ≡ with_part j.copy name) → OnErr result (now ≡ j.copy) → OnOk result ((cells dir (temp_name_of name j.copy.number)).now ≡ Some bytes)
+          → (meta : FileMetaData) → IsMetaOf bytes meta → meta_in j.copy.want.files name ≡ Some meta → IsWholeReplica cells (record p { dir = dir; files = files; job = Some (record { copy = now; infos = j.infos; stopped = j.stopped }) })
+      part_whole (Ok x) made same written meta meta_is wanted = arrived_whole made bytes written meta meta_is wanted
+      part_whole (Err x) made same written meta meta_is wanted = out_whole same
+
+      pub part_sourced : {T E : Type 0} (result : Result T E) → OnOk result (now ≡ with_part j.copy name) → OnErr result (now ≡ j.copy) → OnOk result ((cells dir (temp_name_of name j.copy.number)).now ≡ Some bytes)
+          → (source : Name → Content) → source name ≡ Some bytes → IsSourced source cells p → IsSourced source cells (record p { dir = dir; files = files; job = Some (record { copy = now; infos = j.infos; stopped = j.stopped }) })
+      part_sourced (Ok x) made same written source is_source h = arrived_sourced made bytes written source is_source h
+      part_sourced (Err x) made same written source is_source h = out_sourced same source h

@@ -17,9 +17,8 @@ ghost use Rattle.std.specs.Option.{option_map};
 ghost use Rattle.replica_node.specs.Jobs.{running_point};
 ghost use Rattle.replica_node.specs.Running.{is_job_number, running_job, with_job, without_job};
 
-use crate::arriving::arrived_point;
 use crate::ends::{end_copy, stop_job};
-use crate::job::PointJob;
+use crate::job::{PointJob, told};
 use crate::parts::ReplicaParts;
 use crate::precopy_arriving::arrived_copy;
 use crate::replica::Replica;
@@ -99,11 +98,27 @@ impl<D: Dir> Replica<D> {
             → Rose (D.faults self.old.dir) (D.faults self.new.dir) }
         ensures later { D.faults self.old.dir ≤ D.faults self.new.dir }
     {
-        if copies_point(&self.parts, job) {
-            arrived_point(&mut self.parts, job, part)
-        } else {
-            arrived_copy(&mut self.parts, job, part)
+        if !copies_point(&self.parts, job) {
+            return arrived_copy(&mut self.parts, job, part);
         }
+        let Some(
+            PointJob {
+                mut copy,
+                infos,
+                stopped,
+            },
+        ) = self.parts.job.take()
+        else {
+            unreachable!();
+        };
+        let arrived = copy.arrived(part, &mut self.parts.files, &mut self.parts.dir);
+        told(&copy);
+        self.parts.job = Some(PointJob {
+            copy,
+            infos,
+            stopped,
+        });
+        arrived
     }
 
     /// Stops a job, which keeps what it has and makes no call of the disk, or ends a copy of a merged segment, which gives back

@@ -4,7 +4,6 @@
 
 mod advancing;
 mod answer;
-mod arriving;
 mod beginning;
 mod commits;
 mod ends;
