@@ -77,10 +77,6 @@ pub below_more : (sent : List Sent) (one : Sent) (n k : ℕ) → AllByRecursion 
 below_more sent one n k all is less =
     all_more (λ (s : Sent). s.node.0 < k) sent one (all_both (λ (s : Sent). s.node.0 < n) (λ (s : Sent). s.node.0 < n) (λ (s : Sent). s.node.0 < k) sent (λ s low again. omega (arith, low, less)) all all) (omega (arith, is, less))
 
-below_apart : (sent : List Sent) (n : ℕ) → AllByRecursion (λ s. s.node.0 < n) sent → is_sent_to n sent ≡ false
-below_apart [] n all = refl
-below_apart (s ∷ sent) n all = ap (λ (b : Bool). b || is_sent_to n sent) (ne_eqb s.node.0 n (λ same. (let low = all.0 in absurd (omega (arith, low, same))))) ∙ below_apart sent n all.1
-
 -- ---- one replica
 
 -- the copies that a generation left

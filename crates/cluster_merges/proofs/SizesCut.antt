@@ -1,5 +1,5 @@
 -- The sizes of the primary's segments where a merge is cut over.
-use Rattle.std.proofs.Common.{◌≡◌, ◌≢◌, ◌==◌, ◌||◌, ◌++◌, ◌∷◌, [], ℕ, zero, suc, Bool, true, false, true≢false, List, map, length, not, nat_lt, Some, None, Option, refl, ap, ◌∙◌, sym, subst, arith, if◌then◌else◌}
+use Rattle.std.proofs.Common.{◌≡◌, ◌≢◌, ◌==◌, ◌||◌, ◌++◌, ◌∷◌, [], ℕ, zero, suc, Bool, true, false, List, map, length, not, nat_lt, Some, None, Option, refl, ap, ◌∙◌, sym, subst, arith, if◌then◌else◌}
 use Rattle.std.specs.List.{All, AllByRecursion, AllZip, list_any, zip}
 use Rattle.std.proofs.lemmas.Bool.{ne_eqb}
 use Rattle.std.proofs.lemmas.List.{length-map, map-append}
@@ -14,10 +14,9 @@ use Rattle.segment_infos.specs.declared.infos.Infos.{Infos}
 use Rattle.segment_infos.specs.declared.infos.SegRecord.{SegRecord}
 use Rattle.seg_reader.specs.Shown.{Shown}
 use Rattle.seg_reader.specs.Stands.{IsSegmentIn}
-use Rattle.seg_merge.specs.declared.task.Merged.{Merged}
 use Rattle.segment_steps.specs.Next.{Turn, record_by, record_after, stays}
 use Rattle.segment_steps.specs.Starting.{size_by}
-use Rattle.segment_steps.specs.CutOver.{Part, is_one_of, inputs_in, others_in, in_place, lives_of, merged_turn, merged_turns, part_after}
+use Rattle.segment_steps.specs.CutOver.{Part, inputs_in, others_in, in_place, lives_of, merged_turn, merged_turns, part_after}
 use Rattle.index_primary.specs.declared.parts.PrimaryParts.{PrimaryParts}
 use Rattle.index_primary.specs.declared.states.Merging.{Merging}
 use Rattle.index_primary.specs.CutOverCalls.{IsCutOver}

@@ -1,5 +1,5 @@
 -- The sizes of the primary's segments where a merge starts, and where one is given up.
-use Rattle.std.proofs.Common.{◌≡◌, ◌≤◌, ◌+◌, ◌==◌, ◌||◌, ◌++◌, ◌∷◌, [], ℕ, zero, suc, Bool, true, false, true≢false, List, map, length, take, drop, Some, None, Option, Vec, Global, filter, refl, ap, ◌∙◌, sym, subst, arith, if◌then◌else◌}
+use Rattle.std.proofs.Common.{◌≡◌, ◌≤◌, ◌==◌, ◌||◌, ◌++◌, ◌∷◌, [], ℕ, zero, suc, Bool, true, false, true≢false, List, map, length, take, drop, Some, None, Option, Vec, Global, filter, refl, ap, ◌∙◌, sym, subst, arith, if◌then◌else◌}
 use Rattle.std.specs.List.{AllByRecursion, AllZip, list_any, zip}
 use Rattle.std.proofs.lemmas.Bool.{eq-eqb}
 use Rattle.std.proofs.lemmas.List.{length-map, length-take-le, length-drop, append-nil}
@@ -12,7 +12,7 @@ use Rattle.segment_infos.specs.declared.infos.SegRecord.{SegRecord}
 use Rattle.seg_reader.specs.Shown.{Shown}
 use Rattle.seg_merge.specs.declared.task.MergeTask.{MergeTask}
 use Rattle.segment_steps.specs.Starting.{size_by, neighbours}
-use Rattle.segment_steps.specs.CutOver.{Part, is_one_of, inputs_in}
+use Rattle.segment_steps.specs.CutOver.{Part, inputs_in}
 use Rattle.index_primary.specs.declared.parts.PrimaryParts.{PrimaryParts}
 use Rattle.index_primary.specs.declared.states.Merging.{Merging}
 use Rattle.index_primary.specs.declared.states.Out.{Out}

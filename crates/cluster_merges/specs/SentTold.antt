@@ -1,5 +1,5 @@
 -- What callers are told of nodes to which copies of a merged segment were sent.
-use Rattle.std.specs.Prelude.{ℕ, nat_lt, ◌≡◌, ◌==◌, ◌&&◌, ◌++◌, ◌∷◌, [], Bool, true, false, not, List, Option, Some, None, is_some, length, if◌then◌else◌}
+use Rattle.std.specs.Prelude.{ℕ, nat_lt, ◌≡◌, ◌==◌, ◌&&◌, ◌++◌, ◌∷◌, [], Bool, false, not, List, Option, Some, None, is_some, length, if◌then◌else◌}
 use Rattle.std.specs.List.{AllByRecursion, list_any}
 use Rattle.disk_model.specs.Disk.{Name}
 use Rattle.copy_state.specs.declared.state.CopyState.{CopyState}
