@@ -30,4 +30,4 @@ returns-clause-shown g c =
 
 pub returns-clause-rest : goal.returns-clause-rest
 returns-clause-rest g c = replica_told c.args.n.0 c.args.job c.drop_in.ensures.replica c.args.places.now.items c.drop_in.new.places.items c.drop_in.ensures.at c.drop_in.ensures.moves (ap (λ (z : ReplicaParts _). stage_calls z.commits.stage) c.drop_in.ensures.step.others) (ap (λ (z : ReplicaParts _). job_files z.seen.0 z.job) c.drop_in.ensures.step.others)
-    (but_ended_copy c.args.job _ _ (ap (λ (m : MergeCopies). m.running) c.drop_in.ensures.step.copies))
+    (but_ended_copy c.args.job c.drop_in.ensures.at.parts c.drop_in.ensures.replica (ap (λ (m : MergeCopies). m.running) c.drop_in.ensures.step.copies))
