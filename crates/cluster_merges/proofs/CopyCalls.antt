@@ -7,7 +7,7 @@ use Rattle.nrt_base.specs.declared.numbers.At.{At}
 use Rattle.nrt_base.specs.declared.numbers.LineNo.{LineNo}
 use Rattle.nrt_base.specs.declared.numbers.NodeNo.{NodeNo}
 use Rattle.nrt_base.specs.declared.numbers.SegNo.{SegNo}
-use Rattle.disk_model.specs.Disk.{Cells}
+use Rattle.disk_model.specs.Disk.{Name, Cells}
 use Rattle.copy_state.specs.declared.meta.FileMetaData.{FileMetaData}
 use Rattle.copy_state.specs.States.{meta_in}
 use Rattle.copy_state.specs.Meta.{IsMetaOf}
@@ -59,8 +59,8 @@ module _ {D : Type 0} where
       ∙ ap (λ (l : List MergedCopy). misses_file seg number l) (ap (λ (o : Option (List MergedCopy)). unwrap_or o []) (slice_get-map place_copies places k) ∙ copies_told (slice_get places k))
 
   -- the turn is that of the copy that callers see
-  pub turn_where : (r : Run) (b0 b1 : Sheet) (board : Board) (places : List (Option (NodePlace D))) → {ended cut : Bool} {calls : List ℕ} {sizes : List (Option ℕ)} {jobs : List JobFiles} {plans : List Plans}
-      → record { ended = ended; nodes = b0.nodes; log = b0.log; rest = record { calls_left = calls; cut = cut; sizes = sizes; jobs = jobs; copies = copies_in places; tasks = board; plans = plans } } ≡ r → b1.log ≡ b0.log → (seg : SegNo) (n : NodeNo) (job : ℕ) (turn : CopyTurn)
+  pub turn_where : (r : Run) (b0 b1 : Sheet) (board : Board) (places : List (Option (NodePlace D))) → {ended cut : Bool} {calls : List ℕ} {sizes : List (Option ℕ)} {jobs : List JobFiles} {plans : List Plans} {named : List (List Name)}
+      → record { ended = ended; nodes = b0.nodes; log = b0.log; rest = record { calls_left = calls; cut = cut; sizes = sizes; jobs = jobs; copies = copies_in places; tasks = board; plans = plans; names = named } } ≡ r → b1.log ≡ b0.log → (seg : SegNo) (n : NodeNo) (job : ℕ) (turn : CopyTurn)
       → IsTurnWhere (misses_file seg.0 job (place_copies (place_of places n.0))) (job_at n.0 b1.log) turn → IsTurnWhere (misses_at seg.0 n.0 job r) (job_at n.0 r.log) turn
   turn_where r b0 b1 board places view e1 seg n job turn is =
       subst (λ (misses : Bool). IsTurnWhere misses (job_at n.0 r.log) turn) (sym (misses_are seg.0 n.0 job r places (sym (ap (λ (x : Run). x.rest.copies) view))))

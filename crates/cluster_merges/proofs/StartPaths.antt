@@ -7,7 +7,7 @@ use Rattle.nrt_base.specs.SegNumbers.{segment_number, segments_of_generation}
 use Rattle.nrt_base.specs.declared.numbers.At.{At}
 use Rattle.nrt_base.specs.declared.numbers.NodeNo.{NodeNo}
 use Rattle.nrt_base.specs.declared.numbers.SegNo.{SegNo}
-use Rattle.disk_model.specs.Disk.{Cells, reads_of}
+use Rattle.disk_model.specs.Disk.{Name, Cells, reads_of}
 use Rattle.seg_reader.specs.Shown.{Shown}
 use Rattle.seg_merge.specs.declared.task.MergeTask.{MergeTask}
 use Rattle.merge_choice.specs.Choice.{IsClass, IsFirstRange, HasNoRange}
@@ -57,17 +57,19 @@ use Rattle.cluster_state.proofs.MergingStill.{primary_keeps, one_keeps, stand_sa
 use Rattle.node_merges.specs.MergeChanges.{AsksMerge}
 use Rattle.node_merges.specs.MergePlaces.{MovesPrimary, AreSizesAt}
 use Rattle.cluster_merges.specs.MergePaths.{BeginsMerge, StartsMergeFor}
+use Rattle.cluster_merges.specs.MergeSizes.{without_range}
 use Rattle.cluster_merges.specs.Running.{AllShown}
 use Rattle.cluster_merges.proofs.BegunShows.{HasStarted, begun_shows, begun_files}
 use Rattle.cluster_merges.proofs.BegunStands.{begun_stands}
 use Rattle.cluster_merges.proofs.FirstSizes.{range_sizes}
 use Rattle.cluster_merges.proofs.InsideSteps.{all_is}
+use Rattle.cluster_merges.proofs.SizesEnded.{started_sizes, sizes_moved}
 use Rattle.cluster_merges.proofs.TaskPaths.{as_before}
 
 -- ---- the call
 
-module _ {D : Type 0} (cells : D → Cells) (r : Run) (old new : List (Option (NodePlace D))) (b0 b1 : Sheet) (board : Board) (at : At) (p : NodeNo) (factor : ℕ) (result : Result (Option MergeTask) PublishFault) {ended cut : Bool} {calls : List ℕ} {copies : List (List MergedCopy)} {jobs : List JobFiles} {plans : List Plans}
-    (view : record { ended = ended; nodes = b0.nodes; log = b0.log; rest = record { calls_left = calls; cut = cut; sizes = sizes_in old; jobs = jobs; copies = copies; tasks = board; plans = plans } } ≡ r) (running : r.ended ≡ false) (all : ended ≡ false → AllShown cells b0 board old)
+module _ {D : Type 0} (cells : D → Cells) (r : Run) (old new : List (Option (NodePlace D))) (b0 b1 : Sheet) (board : Board) (at : At) (p : NodeNo) (factor : ℕ) (result : Result (Option MergeTask) PublishFault) {ended cut : Bool} {calls : List ℕ} {copies : List (List MergedCopy)} {jobs : List JobFiles} {plans : List Plans} {named : List (List Name)}
+    (view : record { ended = ended; nodes = b0.nodes; log = b0.log; rest = record { calls_left = calls; cut = cut; sizes = sizes_in old; jobs = jobs; copies = copies; tasks = board; plans = plans; names = named } } ≡ r) (running : r.ended ≡ false) (all : ended ≡ false → AllShown cells b0 board old)
     (e1 : b1.log ≡ b0.log) (n1 : b1.nodes ≡ b0.nodes) (c1 : b1.cut ≡ b0.cut) (legal : IsLegalPast b0.nodes (printed b0.log)) (turns : AreInTurn (printed b0.log)) (fresh : IsFresh at (printed b0.log)) (node : IsNode r.nodes p.0) (primary : primary_of (printed r.log) ≡ Some p)
     (asked : MovesPrimary (λ q s. AsksMerge cells factor q s result) p.0 old new) where
   was : AllShown cells b0 board old
@@ -142,15 +144,15 @@ module _ {D : Type 0} (cells : D → Cells) (r : Run) (old new : List (Option (N
   all_drawn : q.infos.counter ≡ segments_of_generation → names_drawn (printed r.log) ≡ segments_of_generation
   all_drawn full = sym (ap (λ (x : Run). names_drawn (printed x.log)) view) ∙ (sym shows.writer.counter ∙ full)
 
-  pub none_starts : result ≡ Ok None → {calls1 : List ℕ} {cut1 : Bool} {sizes1 : List (Option ℕ)} {copies1 : List (List MergedCopy)} {jobs1 : List JobFiles} {plans1 : List Plans}
-      → StartsMergeFor at factor r (record { ended = false; nodes = b1.nodes; log = b1.log; rest = record { calls_left = calls1; cut = cut1; sizes = sizes1; jobs = jobs1; copies = copies1; tasks = board; plans = plans1 } }) (Some Nothing)
+  pub none_starts : result ≡ Ok None → {calls1 : List ℕ} {cut1 : Bool} {sizes1 : List (Option ℕ)} {copies1 : List (List MergedCopy)} {jobs1 : List JobFiles} {plans1 : List Plans} {named1 : List (List Name)}
+      → StartsMergeFor at factor r (record { ended = false; nodes = b1.nodes; log = b1.log; rest = record { calls_left = calls1; cut = cut1; sizes = sizes1; jobs = jobs1; copies = copies1; tasks = board; plans = plans1; names = named1 } }) (Some Nothing)
   none_starts is {calls1} {cut1} {sizes1} = (as_before r b0 b1 board view e1 n1 board calls1 cut1 sizes1 refl refl, no_range (answered (Ok None) is).0)
 
-  pub spent_starts : (fault : PublishFault) (cause : Cause) → result ≡ Err fault → fault ≡ Spent → cause ≡ NamesSpent → (calls1 : List ℕ) (cut1 : Bool) (sizes1 : List (Option ℕ)) (copies1 : List (List MergedCopy)) (jobs1 : List JobFiles) (plans1 : List Plans)
-      → StartsMergeFor at factor r (record { ended = false; nodes = b1.nodes; log = b1.log; rest = record { calls_left = calls1; cut = cut1; sizes = sizes1; jobs = jobs1; copies = copies1; tasks = board; plans = plans1 } }) (Some cause)
-  spent_starts fault cause is spent named calls1 cut1 sizes1 copies1 jobs1 plans1 =
+  pub spent_starts : (fault : PublishFault) (cause : Cause) → result ≡ Err fault → fault ≡ Spent → cause ≡ NamesSpent → (calls1 : List ℕ) (cut1 : Bool) (sizes1 : List (Option ℕ)) (copies1 : List (List MergedCopy)) (jobs1 : List JobFiles) (plans1 : List Plans) (named1 : List (List Name))
+      → StartsMergeFor at factor r (record { ended = false; nodes = b1.nodes; log = b1.log; rest = record { calls_left = calls1; cut = cut1; sizes = sizes1; jobs = jobs1; copies = copies1; tasks = board; plans = plans1; names = named1 } }) (Some cause)
+  spent_starts fault cause is spent named calls1 cut1 sizes1 copies1 jobs1 plans1 named1 =
       let all = refused fault Spent is spent in
-      subst (λ (c : Cause). StartsMergeFor at factor r (record { ended = false; nodes = b1.nodes; log = b1.log; rest = record { calls_left = calls1; cut = cut1; sizes = sizes1; jobs = jobs1; copies = copies1; tasks = board; plans = plans1 } }) (Some c)) (sym named)
+      subst (λ (c : Cause). StartsMergeFor at factor r (record { ended = false; nodes = b1.nodes; log = b1.log; rest = record { calls_left = calls1; cut = cut1; sizes = sizes1; jobs = jobs1; copies = copies1; tasks = board; plans = plans1; names = named1 } }) (Some c)) (sym named)
       (as_before r b0 b1 board view e1 n1 board calls1 cut1 sizes1 refl refl, some_range all.0, all_drawn all.1)
 
   -- ---- a merge starts
@@ -193,7 +195,11 @@ module _ {D : Type 0} (cells : D → Cells) (r : Run) (old new : List (Option (N
 
     -- the merge takes the first range by the sizes that callers are told
     takes : TakesFirst factor r.rest.sizes task.inputs
-    takes = subst (λ (l : List (Option ℕ)). TakesFirst factor l task.inputs) (sym sizes) (record { from = starts.start.from; first = starts.start.first; taken = taken })
+    takes = record {
+      from = starts.start.from;
+      first = subst (λ (l : List (Option ℕ)). IsFirstRange factor l starts.start.from) (sym sizes) starts.start.first;
+      taken = ap (λ (l : List (Option ℕ)). take factor (drop starts.start.from l)) sizes ∙ taken;
+    }
 
     pub merging_rule : MayStartMerge (printed b0.log) at task.seg
     merging_rule = record { running = λ none. some_none (sym primary0 ∙ none); next = next; unspent = names; spared = fresh.spared }
@@ -228,7 +234,14 @@ module _ {D : Type 0} (cells : D → Cells) (r : Run) (old new : List (Option (N
             asked.moves node0 asked.at.there was.0 here others rows told counts was.2,
       )
 
-      pub begins_merge : {calls1 : List ℕ} {cut1 : Bool} {sizes1 : List (Option ℕ)} {copies1 : List (List MergedCopy)} {jobs1 : List JobFiles} {plans1 : List Plans} → BeginsMerge at factor r (record { ended = false; nodes = b3.nodes; log = b3.log; rest = record { calls_left = calls1; cut = cut1; sizes = sizes1; jobs = jobs1; copies = copies1; tasks = after; plans = plans1 } })
+      -- the inputs have no size any more
+      held_sizes : sizes_in new ≡ without_range starts.start.from factor r.rest.sizes
+      held_sizes =
+          (sizes_moved cells b0 b3 old new p was.0 started_all.0 node0 (n3 ∙ (n2 ∙ n1)) primary0 (ap (λ (l : Log). primary_of (printed l)) log_now ∙ primary0) asked).1
+          ∙ (started_sizes cells factor q s task starts asked.step.whole (AllZip-long (IsSegmentIn (reads_of (cells q.dir))) q.infos.segs q.segs shows.whole.writer.stands.each)
+          ∙ ap (λ (l : List (Option ℕ)). without_range starts.start.from factor l) (sym sizes))
+
+      pub begins_merge : {calls1 : List ℕ} {cut1 : Bool} {copies1 : List (List MergedCopy)} {jobs1 : List JobFiles} {plans1 : List Plans} {named1 : List (List Name)} → BeginsMerge at factor r (record { ended = false; nodes = b3.nodes; log = b3.log; rest = record { calls_left = calls1; cut = cut1; sizes = sizes_in new; jobs = jobs1; copies = copies1; tasks = after; plans = plans1; names = named1 } })
       begins_merge = record {
         seg = task.seg;
         inputs = task.inputs;
@@ -236,6 +249,7 @@ module _ {D : Type 0} (cells : D → Cells) (r : Run) (old new : List (Option (N
         takes = takes;
         unspent = subst (λ (x : Run). names_drawn (printed x.log) < segments_of_generation) view names;
         few = subst (λ (x : Run). factor ≤ put_publishes (printed x.log)) view few;
+        held = held_sizes;
         begins = record {
           is = record { running = refl; nodes = n3 ∙ (n2 ∙ (n1 ∙ ap (λ (x : Run). x.nodes) view)); log = log_now ∙ (ap (λ (l : List (Option ℕ)). kept (MergeOut at.line task.seg task.inputs l) ∷ shown at (MergingEvent task.seg) ∷ b0.log) (sym sizes) ∙ ap (λ (x : Run). kept (MergeOut at.line task.seg task.inputs r.rest.sizes) ∷ shown at (MergingEvent task.seg) ∷ x.log) view) };
           rows_are = rows ∙ ap (λ (x : Run). x.rest.tasks.rows ++ record { seg = task.seg; line = at.line; spread = None } ∷ []) view;

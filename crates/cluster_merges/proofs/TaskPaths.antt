@@ -3,7 +3,7 @@ use Rattle.std.proofs.Common.{◌≡◌, ◌≢◌, ◌≤◌, ◌+◌, ◌*◌,
 use Rattle.std.specs.List.{All}
 use Rattle.std.proofs.lemmas.List.Elements.{All-head}
 use Rattle.nrt_base.specs.declared.numbers.At.{At}
-use Rattle.disk_model.specs.Disk.{Cells}
+use Rattle.disk_model.specs.Disk.{Name, Cells}
 use Rattle.history_rules.specs.declared.entry.Event.TheVariants.{Drained}
 use Rattle.history_rules.specs.Lines.{entries_of_line, publish_in_flight, commit_in_flight}
 use Rattle.history_rules.specs.Legal.{KeepsRule, IsLegalPast}
@@ -31,25 +31,25 @@ use Rattle.cluster_merges.specs.MergePaths.{IsBoard, IsAsBefore, HandsTask}
 use Rattle.cluster_merges.specs.Running.{AllShown}
 use Rattle.cluster_merges.proofs.InsideSteps.{all_is, each_still, take_path}
 
-module _ (r : Run) (b0 b1 : Sheet) (board : Board) {ended cut : Bool} {calls : List ℕ} {sizes : List (Option ℕ)} {copies : List (List MergedCopy)} {jobs : List JobFiles} {plans : List Plans} (view : record { ended = ended; nodes = b0.nodes; log = b0.log; rest = record { calls_left = calls; cut = cut; sizes = sizes; jobs = jobs; copies = copies; tasks = board; plans = plans } } ≡ r)
+module _ (r : Run) (b0 b1 : Sheet) (board : Board) {ended cut : Bool} {calls : List ℕ} {sizes : List (Option ℕ)} {copies : List (List MergedCopy)} {jobs : List JobFiles} {plans : List Plans} {named : List (List Name)} (view : record { ended = ended; nodes = b0.nodes; log = b0.log; rest = record { calls_left = calls; cut = cut; sizes = sizes; jobs = jobs; copies = copies; tasks = board; plans = plans; names = named } } ≡ r)
     (e1 : b1.log ≡ b0.log) (n1 : b1.nodes ≡ b0.nodes) where
   -- nothing changed
-  pub as_before : (new : Board) (calls1 : List ℕ) (cut1 : Bool) (sizes1 : List (Option ℕ)) {copies1 : List (List MergedCopy)} {jobs1 : List JobFiles} {plans1 : List Plans} → new.rows ≡ board.rows → new.posted ≡ board.posted
-      → IsAsBefore r (record { ended = false; nodes = b1.nodes; log = b1.log; rest = record { calls_left = calls1; cut = cut1; sizes = sizes1; jobs = jobs1; copies = copies1; tasks = new; plans = plans1 } })
+  pub as_before : (new : Board) (calls1 : List ℕ) (cut1 : Bool) (sizes1 : List (Option ℕ)) {copies1 : List (List MergedCopy)} {jobs1 : List JobFiles} {plans1 : List Plans} {named1 : List (List Name)} → new.rows ≡ board.rows → new.posted ≡ board.posted
+      → IsAsBefore r (record { ended = false; nodes = b1.nodes; log = b1.log; rest = record { calls_left = calls1; cut = cut1; sizes = sizes1; jobs = jobs1; copies = copies1; tasks = new; plans = plans1; names = named1 } })
   as_before new calls1 cut1 sizes1 rows posted = record {
     is = record { running = refl; nodes = n1 ∙ ap (λ (x : Run). x.nodes) view; log = e1 ∙ ap (λ (x : Run). x.log) view };
     rows_are = rows ∙ ap (λ (x : Run). x.rest.tasks.rows) view;
     posted_are = posted ∙ ap (λ (x : Run). x.rest.tasks.posted) view;
   }
 
-  pub none_taken : (new : Board) (calls1 : List ℕ) (cut1 : Bool) (sizes1 : List (Option ℕ)) {copies1 : List (List MergedCopy)} {jobs1 : List JobFiles} {plans1 : List Plans} → new.rows ≡ board.rows → new.posted ≡ board.posted → board.posted ≡ []
-      → IsAsBefore r (record { ended = false; nodes = b1.nodes; log = b1.log; rest = record { calls_left = calls1; cut = cut1; sizes = sizes1; jobs = jobs1; copies = copies1; tasks = new; plans = plans1 } }) × (r.rest.tasks.posted ≡ [])
+  pub none_taken : (new : Board) (calls1 : List ℕ) (cut1 : Bool) (sizes1 : List (Option ℕ)) {copies1 : List (List MergedCopy)} {jobs1 : List JobFiles} {plans1 : List Plans} {named1 : List (List Name)} → new.rows ≡ board.rows → new.posted ≡ board.posted → board.posted ≡ []
+      → IsAsBefore r (record { ended = false; nodes = b1.nodes; log = b1.log; rest = record { calls_left = calls1; cut = cut1; sizes = sizes1; jobs = jobs1; copies = copies1; tasks = new; plans = plans1; names = named1 } }) × (r.rest.tasks.posted ≡ [])
   none_taken new calls1 cut1 sizes1 rows posted none = (as_before new calls1 cut1 sizes1 rows posted, sym (ap (λ (x : Run). x.rest.tasks.posted) view) ∙ none)
 
   -- the first task was taken
-  pub hands_task : {D : Type 0} (places : List (Option (NodePlace D))) (b2 : Sheet) (new : Board) (p : Posted) (by : Option At) (step : Step) (calls1 : List ℕ) (cut1 : Bool) (sizes1 : List (Option ℕ)) {copies1 : List (List MergedCopy)} {jobs1 : List JobFiles} {plans1 : List Plans} → step ≡ step_of p.kind
+  pub hands_task : {D : Type 0} (places : List (Option (NodePlace D))) (b2 : Sheet) (new : Board) (p : Posted) (by : Option At) (step : Step) (calls1 : List ℕ) (cut1 : Bool) (sizes1 : List (Option ℕ)) {copies1 : List (List MergedCopy)} {jobs1 : List JobFiles} {plans1 : List Plans} {named1 : List (List Name)} → step ≡ step_of p.kind
       → b2.log ≡ kept (TaskOut p.line p.seg by step) ∷ b1.log → b2.nodes ≡ b1.nodes → board.posted ≡ p ∷ new.posted → new.rows ≡ board.rows → MergesStand b0.log b0.cut b0.nodes board places
-      → HandsTask by r (record { ended = false; nodes = b2.nodes; log = b2.log; rest = record { calls_left = calls1; cut = cut1; sizes = sizes1; jobs = jobs1; copies = copies1; tasks = new; plans = plans1 } }) (record { line = p.line; seg = p.seg; by = by; kind = p.kind })
+      → HandsTask by r (record { ended = false; nodes = b2.nodes; log = b2.log; rest = record { calls_left = calls1; cut = cut1; sizes = sizes1; jobs = jobs1; copies = copies1; tasks = new; plans = plans1; names = named1 } }) (record { line = p.line; seg = p.seg; by = by; kind = p.kind })
   hands_task places b2 new p by step calls1 cut1 sizes1 is_step log nodes first rows was = record {
     rest = new.posted;
     first = sym (ap (λ (x : Run). x.rest.tasks.posted) view) ∙ first;
@@ -72,8 +72,8 @@ module _ (r : Run) (b0 b1 : Sheet) (board : Board) {ended cut : Bool} {calls : L
       now = kept (TaskOut p.line p.seg by step) ∷ b0.log
 
   -- a drain has its reply
-  pub drained_now : (b2 : Sheet) (new : Board) (at : At) (done most : ℕ) (calls1 : List ℕ) (cut1 : Bool) (sizes1 : List (Option ℕ)) {copies1 : List (List MergedCopy)} {jobs1 : List JobFiles} {plans1 : List Plans} → b2.log ≡ shown at (Drained done most) ∷ b1.log → b2.nodes ≡ b1.nodes → new.rows ≡ board.rows → new.posted ≡ board.posted
-      → IsBoard r (record { ended = false; nodes = b2.nodes; log = b2.log; rest = record { calls_left = calls1; cut = cut1; sizes = sizes1; jobs = jobs1; copies = copies1; tasks = new; plans = plans1 } }) (shown at (Drained done most) ∷ r.log) r.rest.tasks.rows r.rest.tasks.posted
+  pub drained_now : (b2 : Sheet) (new : Board) (at : At) (done most : ℕ) (calls1 : List ℕ) (cut1 : Bool) (sizes1 : List (Option ℕ)) {copies1 : List (List MergedCopy)} {jobs1 : List JobFiles} {plans1 : List Plans} {named1 : List (List Name)} → b2.log ≡ shown at (Drained done most) ∷ b1.log → b2.nodes ≡ b1.nodes → new.rows ≡ board.rows → new.posted ≡ board.posted
+      → IsBoard r (record { ended = false; nodes = b2.nodes; log = b2.log; rest = record { calls_left = calls1; cut = cut1; sizes = sizes1; jobs = jobs1; copies = copies1; tasks = new; plans = plans1; names = named1 } }) (shown at (Drained done most) ∷ r.log) r.rest.tasks.rows r.rest.tasks.posted
   drained_now b2 new at done most calls1 cut1 sizes1 log nodes rows posted = record {
     is = record { running = refl; nodes = nodes ∙ (n1 ∙ ap (λ (x : Run). x.nodes) view); log = log ∙ ap (λ (l : Log). shown at (Drained done most) ∷ l) (e1 ∙ ap (λ (x : Run). x.log) view) };
     rows_are = rows ∙ ap (λ (x : Run). x.rest.tasks.rows) view;
@@ -108,8 +108,8 @@ module _ {D : Type 0} (cells : D → Cells) (places : List (Option (NodePlace D)
 
 -- ---- a drain's reply
 
-module _ {D : Type 0} (cells : D → Cells) (r : Run) (places : List (Option (NodePlace D))) (b0 b1 b2 : Sheet) (board new : Board) (at : At) (done most : ℕ) {ended cut : Bool} {calls : List ℕ} {sizes : List (Option ℕ)} {copies : List (List MergedCopy)} {jobs : List JobFiles} {plans : List Plans}
-    (view : record { ended = ended; nodes = b0.nodes; log = b0.log; rest = record { calls_left = calls; cut = cut; sizes = sizes; jobs = jobs; copies = copies; tasks = board; plans = plans } } ≡ r) (running : r.ended ≡ false) (all : ended ≡ false → AllShown cells b0 board places)
+module _ {D : Type 0} (cells : D → Cells) (r : Run) (places : List (Option (NodePlace D))) (b0 b1 b2 : Sheet) (board new : Board) (at : At) (done most : ℕ) {ended cut : Bool} {calls : List ℕ} {sizes : List (Option ℕ)} {copies : List (List MergedCopy)} {jobs : List JobFiles} {plans : List Plans} {named : List (List Name)}
+    (view : record { ended = ended; nodes = b0.nodes; log = b0.log; rest = record { calls_left = calls; cut = cut; sizes = sizes; jobs = jobs; copies = copies; tasks = board; plans = plans; names = named } } ≡ r) (running : r.ended ≡ false) (all : ended ≡ false → AllShown cells b0 board places)
     (e1 : b1.log ≡ b0.log) (n1 : b1.nodes ≡ b0.nodes) (c1 : b1.cut ≡ b0.cut) (legal : IsLegalPast b0.nodes (printed b0.log)) (turns : AreInTurn (printed b0.log)) (fresh : IsFresh at (printed b0.log))
     (empty : entries_of_line at (printed r.log) ≡ []) (is : done ≡ counted_for at r.log) where
   none_yet : entries_of_line at (printed b0.log) ≡ []

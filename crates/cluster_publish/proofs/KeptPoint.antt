@@ -1,6 +1,6 @@
 -- What a publish that ends leaves of what callers are told beside the log.
 use Rattle.std.proofs.Common.{◌≡◌, ◌+◌, ◌∷◌, ℕ, suc, Bool, false, List, Some, Option, map, max, refl, ap, ◌∙◌, sym, arith}
-use Rattle.disk_model.specs.Disk.{Cells}
+use Rattle.disk_model.specs.Disk.{Name, Cells}
 use Rattle.disk_model.specs.Faults.{Plans}
 use Rattle.nrt_base.specs.declared.numbers.At.{At}
 use Rattle.nrt_base.specs.declared.numbers.Gen.{Gen}
@@ -28,7 +28,7 @@ use Rattle.cluster_publish.proofs.MetWords.{met_newest}
 -- where all is as before, it is so but for a new point
 pub all_point : (old new : Run) → KeepsRest old new → KeepsButPoint old new
 all_point old new kept = record {
-  rest = kept ∙ λ i. record old.rest { cut = (sym cut) i; sizes = (sym sizes) i; plans = new.rest.plans };
+  rest = kept ∙ λ i. record old.rest { cut = (sym cut) i; sizes = (sym sizes) i; plans = new.rest.plans; names = new.rest.names };
   still = λ same. kept;
 }
   where
@@ -49,13 +49,13 @@ new_version at g v olds news was behind now is same next still =
 
 module _ {D : Type 0} (cells : D → Cells) where
   -- the primary's place tells the same, but for its sizes
-  pub put_point : (r : Run) (b0 : Sheet) (board : Board) (carries : List Bool) (old mid new : List (Option (NodePlace D))) (n : ℕ) (x y : NodePlace D) {ended cut : Bool} {plans later : List Plans}
-      → record { ended = ended; nodes = b0.nodes; log = b0.log; rest = record { calls_left = calls_in carries old; cut = b0.cut; sizes = sizes_in old; jobs = jobs_in old; copies = copies_in old; tasks = board; plans = plans } } ≡ r
+  pub put_point : (r : Run) (b0 : Sheet) (board : Board) (carries : List Bool) (old mid new : List (Option (NodePlace D))) (n : ℕ) (x y : NodePlace D) {ended cut : Bool} {plans later : List Plans} {named names : List (List Name)}
+      → record { ended = ended; nodes = b0.nodes; log = b0.log; rest = record { calls_left = calls_in carries old; cut = b0.cut; sizes = sizes_in old; jobs = jobs_in old; copies = copies_in old; tasks = board; plans = plans; names = named } } ≡ r
       → PutsBack cells old mid new n x → place_of old n ≡ Some y → place_calls (Some x) ≡ place_calls (Some y) → place_files (Some x) ≡ place_files (Some y) → place_copies (Some x) ≡ place_copies (Some y)
-      → record { calls_left = calls_in carries new; cut = cut; sizes = sizes_in new; jobs = jobs_in new; copies = copies_in new; tasks = board; plans = later } ≡ record r.rest { cut = cut; sizes = sizes_in new; plans = later }
-  put_point r b0 board carries old mid new n x y {ended} {cut} {plans} {later} view put there calls files copies =
-      (λ i. record { calls_left = (ap (with_own carries) (each place_calls calls)) i; cut = cut; sizes = sizes_in new; jobs = (each place_files files) i; copies = (each place_copies copies) i; tasks = board; plans = later })
-      ∙ ap (λ (x : Run). record x.rest { cut = cut; sizes = sizes_in new; plans = later }) view
+      → record { calls_left = calls_in carries new; cut = cut; sizes = sizes_in new; jobs = jobs_in new; copies = copies_in new; tasks = board; plans = later; names = names } ≡ record r.rest { cut = cut; sizes = sizes_in new; plans = later; names = names }
+  put_point r b0 board carries old mid new n x y {ended} {cut} {plans} {later} {named} {names} view put there calls files copies =
+      (λ i. record { calls_left = (ap (with_own carries) (each place_calls calls)) i; cut = cut; sizes = sizes_in new; jobs = (each place_files files) i; copies = (each place_copies copies) i; tasks = board; plans = later; names = names })
+      ∙ ap (λ (x : Run). record x.rest { cut = cut; sizes = sizes_in new; plans = later; names = names }) view
     where
       each : {X : Type 0} (f : Option (NodePlace D) → X) → f (Some x) ≡ f (Some y) → map f new ≡ map f old
       each f is = map_same f old new (put.again ∙ put.count) (λ k. told_one f n x y old new there (put_one cells n x old mid new put) is (suc k))

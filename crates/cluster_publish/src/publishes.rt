@@ -36,6 +36,7 @@ pub fn accept<D: FaultDir + Drop>(
         (by_refusal (without_primary (printed state.old.log))
         (Event.Accepted (accepted_count (printed state.old.log) + 1) op)) ∷ state.old.log)) }
     ensures plans { OnOk result (state.new.rest.plans ≡ state.old.rest.plans) }
+    ensures names { OnOk result (state.new.rest.names ≡ state.old.rest.names) }
     ensures rest { OnOk result (KeepsRest state.old state.new) }
     ensures err { OnErr result (IsEnded state.old state.new) }
 {
@@ -59,6 +60,7 @@ pub fn accept_again<D: FaultDir + Drop>(
     ensures ok { OnOk result (IsNow state.old state.new (shown at
         (Event.Accepted (accepted_count (printed state.old.log) + 1) op) ∷ state.old.log)) }
     ensures plans { OnOk result (state.new.rest.plans ≡ state.old.rest.plans) }
+    ensures names { OnOk result (state.new.rest.names ≡ state.old.rest.names) }
     ensures rest { OnOk result (KeepsRest state.old state.new) }
     ensures err { OnErr result (IsEnded state.old state.new) }
 {

@@ -71,6 +71,7 @@ pub fn accept_at<D: FaultDir + Drop>(
     ensures ok { OnOk result (IsNow cluster.old cluster.new (shown at
         (Event.Accepted (accepted_count (printed cluster.old.log) + 1) op) ∷ cluster.old.log)) }
     ensures plans { OnOk result (cluster.new.rest.plans ≡ cluster.old.rest.plans) }
+    ensures names { OnOk result (cluster.new.rest.names ≡ cluster.old.rest.names) }
     ensures rest { OnOk result (KeepsRest cluster.old cluster.new) }
     ensures err { OnErr result (IsEnded cluster.old cluster.new) }
 {

@@ -21,7 +21,7 @@ impl<D: FaultDir + Drop> Site<D> {
     ghost use Rattle.merge_tasks.specs.Board.{open_merge, is_unwritten};
     ghost use Rattle.cluster_state.specs.DueFaults.{ArrivesBy};
     ghost use Rattle.cluster_state.specs.Run.{IsEnded};
-    ghost use Rattle.cluster_merges.specs.MergesKept.{KeepsButSizes, KeepsButTasks, KeepsButCut, KeepsCopyTurn, KeepsButCopies};
+    ghost use Rattle.cluster_merges.specs.MergesKept.{KeepsBuilt, KeepsButSizes, KeepsButTasks, KeepsButCut, KeepsCopyTurn, KeepsButCopies};
     ghost use Rattle.cluster_merges.specs.MergePaths.{IsMergedOut, EndsBuild, TakesTask};
     ghost use Rattle.cluster_merges.specs.TaskCalls.{MergeLine, PrecopyTurns, PartTurns, CutTurns, DrainTurns};
     ghost use Rattle.cluster_core.specs.Doing.{IsReplied, IsRepliedAtDone};
@@ -68,6 +68,7 @@ impl<D: FaultDir + Drop> Site<D> {
         requires merged { IsMergedOut self.old.run.log task.now.seg merged }
         ensures ok { OnOk result (EndsBuild task.now.line task.now.seg task.now.by self.old.run self.new.run
             (is_unwritten (open_merge task.now.seg.0 self.old.run.rest.tasks.rows))) }
+        ensures rest { OnOk result (KeepsBuilt task.now.seg self.old.run self.new.run) }
         ensures err { OnErr result (IsEnded self.old.run self.new.run) }
 
         // what its taker is owed
@@ -88,7 +89,7 @@ impl<D: FaultDir + Drop> Site<D> {
         requires node { IsNode self.old.run.nodes copy.node.0 }
         ensures ok { IfOk result (PrecopyTurns task.now.line task.now.seg task.now.by
             copy.node copy.job self.old.run self.new.run) }
-        ensures rest { IfOk result (KeepsCopyTurn copy.node.0 self.old.run self.new.run) }
+        ensures rest { IfOk result (KeepsCopyTurn copy.node.0 copy.job self.old.run self.new.run) }
         ensures err { OnErr result (IsEnded self.old.run self.new.run) }
 
         // what its taker is owed
@@ -114,7 +115,7 @@ impl<D: FaultDir + Drop> Site<D> {
         requires arrives { ArrivesBy file.now arrived }
         ensures ok { IfOk result (PartTurns task.now.line task.now.seg task.now.by
             copy.node copy.job file.now.fate self.old.run self.new.run) }
-        ensures rest { OnOk result (KeepsButCopies copy.node.0 self.old.run self.new.run) }
+        ensures rest { OnOk result (KeepsButCopies copy.node.0 copy.job self.old.run self.new.run) }
         ensures err { OnErr result (IsEnded self.old.run self.new.run) }
 
         // what its taker is owed

@@ -12,6 +12,7 @@ use Rattle.cluster_state.proofs.MergingPaths.{third_at, put_shown}
 use Rattle.cluster_state.proofs.MergingStill.{primary_keeps}
 use Rattle.cluster_nodes.specs.declared.nodes.Node.TheVariants.{Primary}
 use Rattle.index_primary.specs.declared.parts.PrimaryParts.{PrimaryParts}
+use Rattle.cluster_state.specs.NamesIn.{place_names}
 use Rattle.cluster_state.specs.PlansIn.{place_plans}
 use Rattle.cluster_state.proofs.RestKept.{put_keeps, primary_tells}
 use Rattle.cluster_state.proofs.Behind.{put_each}
@@ -89,3 +90,11 @@ returns-clause-plans g c =
     (record { count = c.take.ensures.count; taken = c.take.ensures.places; again = c.put.ensures.count; there = c.put.ensures.places })
     (c.take.ensures.place ∙ ap Some c.primary_in-primary.ensures) (ap (λ (z : PrimaryParts _). g.D.FaultDir.planned z.dir) c.in_ok-place.ensures.waits)
     ∙ ap (λ (r : Run). r.rest.plans) c.cluster.view_is
+
+pub returns-clause-names : goal.returns-clause-names
+returns-clause-names g c =
+    put_each g.D.Dir.cells (place_names g.D.FaultDir.names) _ c.take.new.places.items _ c.args.p.0
+    (record { node = Primary c.accept-place.new.self; held = c.primary_in-primary.result.1 }) (record { node = Primary c.primary_in-primary.result.0; held = c.primary_in-primary.result.1 })
+    (record { count = c.take.ensures.count; taken = c.take.ensures.places; again = c.put.ensures.count; there = c.put.ensures.places })
+    (c.take.ensures.place ∙ ap Some c.primary_in-primary.ensures) (ap (λ (z : PrimaryParts _). g.D.FaultDir.names z.dir) c.in_ok-place.ensures.waits)
+    ∙ ap (λ (r : Run). r.rest.names) c.cluster.view_is
