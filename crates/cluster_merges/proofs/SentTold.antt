@@ -1,7 +1,7 @@
 -- What callers are told where a copy of a merged segment was sent to a replica, and to one after the other.
 use Rattle.std.proofs.Common.{◌≡◌, ◌⊎◌, inl, inr, ◌<◌, ◌==◌, ◌||◌, ◌&&◌, ◌++◌, ◌∷◌, [], ℕ, suc, Bool, true, false, true≢false, not, List, map, Some, None, Option, Vec, Global, is_some, nat_lt, refl, ap, ◌∙◌, sym, subst, arith, if◌then◌else◌}
 use Rattle.std.specs.List.{AllByRecursion}
-use Rattle.std.proofs.lemmas.Bool.{ne_eqb, eq-eqb}
+use Rattle.std.proofs.lemmas.Bool.{ne_eqb, eq-eqb, or_parts}
 use Rattle.std.proofs.lemmas.List.{map-append}
 use Rattle.nrt_base.specs.declared.numbers.At.{At}
 use Rattle.nrt_base.specs.declared.numbers.Gen.{Gen}
@@ -43,22 +43,18 @@ use Rattle.cluster_state.proofs.KeptOthers.{told_apart, told_one, merged_are}
 use Rattle.cluster_state.proofs.RestKept.{place_sizes, map_same}
 use Rattle.cluster_merges.specs.MergePaths.{WritesMerge, GivesUp, EndsBuild}
 use Rattle.cluster_merges.specs.MergesKept.{KeepsBuiltBy, TellsAll, TellsBuilt}
-use Rattle.cluster_merges.specs.SentTold.{is_sent_to, copies_left, files_left, TellsSent, KeepsButSent, TellsSends}
+use Rattle.cluster_merges.specs.SentTold.{goes_to, copies_left, files_left, TellsSent, KeepsButSent, TellsSends}
 use Rattle.cluster_merges.proofs.KeptMerges.{sizes_same, but_sizes, none_open}
 
 -- ---- lists
 
-neither : (a b : Bool) → (a || b) ≡ false → (a ≡ false) × (b ≡ false)
-neither true b none = absurd (true≢false none)
-neither false b none = (refl, none)
-
 -- a node that is none of those to which copies were sent, the last of them among them
-not_sent : (sent : List Sent) (one : Sent) (m : ℕ) → is_sent_to m (sent ++ one ∷ []) ≡ false → (is_sent_to m sent ≡ false) × ((one.node.0 == m) ≡ false)
-not_sent [] one m none = (refl, (neither (one.node.0 == m) false none).0)
+not_sent : (sent : List Sent) (one : Sent) (m : ℕ) → goes_to m (sent ++ one ∷ []) ≡ false → (goes_to m sent ≡ false) × ((one.node.0 == m) ≡ false)
+not_sent [] one m none = (refl, (or_parts (one.node.0 == m) false none).0)
 not_sent (s ∷ sent) one m none = by (s.node.0 == m) (not_sent sent one m) none
   where
-    by : (b : Bool) → (is_sent_to m (sent ++ one ∷ []) ≡ false → (is_sent_to m sent ≡ false) × ((one.node.0 == m) ≡ false)) → (b || is_sent_to m (sent ++ one ∷ [])) ≡ false
-        → ((b || is_sent_to m sent) ≡ false) × ((one.node.0 == m) ≡ false)
+    by : (b : Bool) → (goes_to m (sent ++ one ∷ []) ≡ false → (goes_to m sent ≡ false) × ((one.node.0 == m) ≡ false)) → (b || goes_to m (sent ++ one ∷ [])) ≡ false
+        → ((b || goes_to m sent) ≡ false) × ((one.node.0 == m) ≡ false)
     by true more none = absurd (true≢false none)
     by false more none = more none
 
@@ -170,7 +166,7 @@ module _ {D : Type 0} where
     stays s is low = subst (λ (o : Option (NodePlace D)). TellsSent log state s (place_files (place_of old s.node.0)) (place_files o) (place_copies (place_of old s.node.0)) (place_copies o))
         (sym (other_place n x p new s.node.0 moves (ne_eqb n s.node.0 (λ e. absurd (omega (arith, low, e)))))) is
 
-    apart : (m : ℕ) → is_sent_to m (sent ++ one ∷ []) ≡ false → (n == m) ≡ false
+    apart : (m : ℕ) → goes_to m (sent ++ one ∷ []) ≡ false → (n == m) ≡ false
     apart m none = subst (λ (k : ℕ). (k == m) ≡ false) here (not_sent sent one m none).1
 
     -- one more

@@ -17,8 +17,8 @@ use Rattle.cluster_state.specs.Sizes.{sizes_in}
 use Rattle.cluster_state.specs.Run.{JobFiles, MergedCopy, Run, no_files, files_at, merged_at}
 
 -- a copy was sent to this node
-abbrev pub is_sent_to : ℕ → List Sent → Bool
-is_sent_to n sent = list_any (λ s. s.node.0 == n) sent
+abbrev pub goes_to : ℕ → List Sent → Bool
+goes_to n sent = list_any (λ s. s.node.0 == n) sent
 
 -- the first file that a copy state names
 abbrev pub first_name : CopyState → Option Name
@@ -45,8 +45,8 @@ pub record TellsSent (log : Log) (state : CopyState) (s : Sent) (files_were file
 pub record KeepsButSent (spread : Spread) (old new : Run) : Type 0 where
   pub rest : new.rest ≡ record old.rest { jobs = new.rest.jobs; copies = new.rest.copies; tasks = new.rest.tasks; plans = new.rest.plans; names = new.rest.names }
   pub each : AllByRecursion (λ s. TellsSent old.log spread.state s (files_at s.node.0 old) (files_at s.node.0 new) (merged_at s.node.0 old) (merged_at s.node.0 new)) spread.left
-  pub files : (m : ℕ) → is_sent_to m spread.left ≡ false → files_at m new ≡ files_at m old
-  pub copies : (m : ℕ) → is_sent_to m spread.left ≡ false → merged_at m new ≡ merged_at m old
+  pub files : (m : ℕ) → goes_to m spread.left ≡ false → files_at m new ≡ files_at m old
+  pub copies : (m : ℕ) → goes_to m spread.left ≡ false → merged_at m new ≡ merged_at m old
 
 -- the same, over what a path has in hand
 pub record TellsSends {D : Type 0} (log : Log) (state : CopyState) (sent : List Sent) (old new : List (Option (NodePlace D))) : Type 0 where
@@ -55,5 +55,5 @@ pub record TellsSends {D : Type 0} (log : Log) (state : CopyState) (sent : List 
   pub sizes : sizes_in new ≡ sizes_in old
   pub each : AllByRecursion
       (λ s. TellsSent log state s (place_files (place_of old s.node.0)) (place_files (place_of new s.node.0)) (place_copies (place_of old s.node.0)) (place_copies (place_of new s.node.0))) sent
-  pub files : (m : ℕ) → is_sent_to m sent ≡ false → place_files (place_of new m) ≡ place_files (place_of old m)
-  pub copies : (m : ℕ) → is_sent_to m sent ≡ false → place_copies (place_of new m) ≡ place_copies (place_of old m)
+  pub files : (m : ℕ) → goes_to m sent ≡ false → place_files (place_of new m) ≡ place_files (place_of old m)
+  pub copies : (m : ℕ) → goes_to m sent ≡ false → place_copies (place_of new m) ≡ place_copies (place_of old m)
