@@ -1,6 +1,6 @@
 mod CommitPlaces
 mod CrashedPlaces
-mod EndedJobs
+pub mod EndedJobs
 mod HeldRows
 pub mod JobFiles
 mod JobNumbers

@@ -1,10 +1,9 @@
 -- What a crash, and a reopening, make of a node in its place.
-use Rattle.std.specs.Prelude.{ℕ, ◌≡◌, [], List, Option, Some, Vec, Contains, IsSomeAnd, length}
+use Rattle.std.specs.Prelude.{ℕ, ◌≡◌, [], List, Option, Some, Vec, Contains, IsSomeAnd}
 use Rattle.std.specs.Global.{Global}
 use Rattle.std.specs.List.{flat_map}
 use Rattle.nrt_base.specs.Causes.{Rose}
 use Rattle.nrt_base.specs.declared.doc.Doc.{Doc}
-use Rattle.nrt_base.specs.declared.numbers.NodeNo.{NodeNo}
 use Rattle.nrt_base.specs.declared.numbers.Version.{Version}
 use Rattle.disk_model.specs.Disk.{Name, Content, Cells, Image, HasCrashed, restarted, reads_of}
 use Rattle.disk_model.specs.Faults.{Plans, ended}
@@ -21,21 +20,17 @@ use Rattle.cluster_nodes.specs.declared.nodes.Node.TheVariants.{Replica, Down}
 use Rattle.cluster_nodes.specs.declared.nodes.NodePlace.{NodePlace}
 use Rattle.cluster_nodes.specs.Places.{place_of, dir_of}
 use Rattle.cluster_nodes.specs.JobPlaces.{MovesOne}
-use Rattle.cluster_nodes.specs.Ends.{OthersOutlive}
 
 module _ {D : Type 0} where
-  -- The node crashed: its directory is what a crash leaves of it, nothing is held of it any more, and what ends with it has ended at the
-  -- others.
-  pub record CrashesIn (cells : D → Cells) (primary : Option NodeNo) (n : ℕ) (old new : List (Option (NodePlace D))) : Type 0 where
+  -- the node crashed: its directory is what a crash leaves of it, nothing is held of it any more, and the other nodes are as before
+  pub record CrashesIn (cells : D → Cells) (n : ℕ) (old new : List (Option (NodePlace D))) : Type 0 where
     pub place : NodePlace D
     pub there : place_of old n ≡ Some place
     pub dir : D
     pub held : Vec HeldTicket Global
     pub none : held.items ≡ []
     pub crashed : HasCrashed (cells (dir_of place.node)) (cells dir)
-    pub count : length new ≡ length old
-    pub here : place_of new n ≡ Some (record { node = Down dir; held = held })
-    pub others : OthersOutlive cells primary n old new
+    pub moves : MovesOne n (record { node = Down dir; held = held }) old new
 
   -- the faults that were planned for the node's disk ended with it
   abbrev pub EndsPlansIn : (D → Plans) → ℕ → List (Option (NodePlace D)) → List (Option (NodePlace D)) → Type 0

@@ -1,12 +1,12 @@
-//! What a crash of a node makes of the others: with the primary the jobs of all replicas stop, and with a replica the copy state of
-//! its job ends.
+//! What ends at the other nodes where one crashes: with the primary the jobs of all replicas stop, and with a replica the copy state
+//! of its job ends.
 
 ghost use Rattle.std.specs.Prelude.{ℕ, ◌≡◌, ◌==◌, false, Some, length, IfOk, OnOk};
 ghost use Rattle.std.specs.Option.{option_map};
 ghost use Rattle.index_primary.specs.States.{out_of};
 ghost use Rattle.cluster_nodes.specs.Outs.{want_at};
 ghost use Rattle.cluster_nodes.specs.Places.{place_of, IsSlot};
-ghost use Rattle.cluster_nodes.specs.Ends.{StopsNodeJob, StopsPlaceJob, CanTakeBack, TakesBackIn, CanEnd, EndsWith};
+ghost use Rattle.cluster_nodes.specs.Ends.{StopsNodeJob, StopsPlaceJob, CanTakeBack, TakesBackIn};
 
 use crate::jobs::stop_job;
 use crate::nodes::{Node, NodePlace, primary_in, put, take};
@@ -48,8 +48,8 @@ fn stop_job_at<D: Dir + Drop>(places: &mut Vec<Option<NodePlace<D>>>, n: usize)
     stop_place_job(&mut places[n - 1]);
 }
 
-// Stops the job of each replica.
-fn stop_jobs<D: Dir + Drop>(places: &mut Vec<Option<NodePlace<D>>>)
+/// Stops the job of each replica, as the primary crashes. Takes no memory.
+pub fn stop_jobs<D: Dir + Drop>(places: &mut Vec<Option<NodePlace<D>>>)
     ensures count { length places.new.items ≡ length places.old.items }
     ensures each { (m : ℕ)
         → StopsPlaceJob D.cells (place_of places.old.items m) (place_of places.new.items m) }
@@ -89,8 +89,8 @@ fn state_in<D: Dir + Drop>(
     }
 }
 
-// Gives the copy state of a node's job back at the primary.
-fn take_back<D: Dir + Drop>(
+/// Gives the copy state of a node's job back at the primary, as the node crashes. It fails when out of memory.
+pub fn take_back<D: Dir + Drop>(
     alloc: Global,
     places: &mut Vec<Option<NodePlace<D>>>,
     p: NodeNo,
@@ -108,27 +108,4 @@ fn take_back<D: Dir + Drop>(
     let node = Node::Primary(primary);
     put(places, p, NodePlace { node, held });
     Ok(())
-}
-
-/// Stops and ends what a node that crashes leaves at the others.
-pub fn end_with<D: Dir + Drop>(
-    alloc: Global,
-    places: &mut Vec<Option<NodePlace<D>>>,
-    primary: Option<NodeNo>,
-    n: NodeNo,
-) -> Result<(), NoMemory>
-    requires slot { IsSlot places.old.items n.0 }
-    requires can { CanEnd primary n.0 places.old.items }
-    ensures { OnOk result (EndsWith D.cells primary n.0 places.old.items places.new.items) }
-{
-    match primary {
-        None => Ok(()),
-        Some(p) => {
-            if p.0 == n.0 {
-                stop_jobs(places);
-                return Ok(());
-            }
-            take_back(alloc, places, p, n)
-        }
-    }
 }

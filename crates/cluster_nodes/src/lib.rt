@@ -19,6 +19,7 @@ mod transfers;
 mod went;
 
 pub use commits::{begin_commit_in, committing_in, step_commit_in};
+pub use ends::{stop_jobs, take_back};
 pub use failed::{is_dir_failed, is_failed};
 pub use faults::{plan_in, stop_in};
 pub use held::HeldKey;

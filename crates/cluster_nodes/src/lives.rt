@@ -6,11 +6,9 @@ ghost use Rattle.cluster_nodes.specs.declared.nodes.NodePlace.{NodePlace};
 ghost use Rattle.replica_opening.specs.Opening.{IsDiskFault, IsStartCutOff, CanOpen};
 ghost use Rattle.replica_opening.specs.Opened.{IsSettledOn};
 ghost use Rattle.cluster_nodes.specs.Places.{place_of, dir_of, IsSlot};
-ghost use Rattle.cluster_nodes.specs.Ends.{CanEnd};
 ghost use Rattle.cluster_nodes.specs.Lives.{CrashesIn, EndsPlansIn, CrashesByPick, ReopensIn, StaysDownIn};
 ghost use Rattle.cluster_nodes.specs.Went.{ByWent};
 
-use crate::ends::end_with;
 use crate::nodes::{Node, NodePlace, put, take};
 use crate::went::Went;
 use commit_steps::RecoverFault;
@@ -30,24 +28,20 @@ pub fn dir_in<D: Dir + Drop>(node: Node<D>) -> D
     }
 }
 
-/// Crashes a node, by the running primary. The number picks among what a crash may leave of its directory.
+/// Crashes a node, of which nothing is left at the others. The number picks among what a crash may leave of its directory.
 pub fn crash_in<D: FaultDir + Drop>(
     alloc: Global,
     places: &mut Vec<Option<NodePlace<D>>>,
-    primary: Option<NodeNo>,
     n: NodeNo,
     pick: u64,
 ) -> Result<(), NoMemory>
     requires slot { IsSlot places.old.items n.0 }
     requires there { place_of places.old.items n.0 ≢ None }
-    requires ends { CanEnd primary n.0 places.old.items }
-    ensures crashes { OnOk result
-        (CrashesIn D.cells primary n.0 places.old.items places.new.items) }
+    ensures crashes { OnOk result (CrashesIn D.cells n.0 places.old.items places.new.items) }
     ensures plans { OnOk result (EndsPlansIn D.planned n.0 places.old.items places.new.items) }
     ensures picked { OnOk result (CrashesByPick D.cells D.leaves n.0 pick
         places.old.items places.new.items) }
 {
-    end_with(alloc, places, primary, n)?;
     let NodePlace {
         node,
         held: tickets,

@@ -2,7 +2,7 @@
 use Rattle.std.proofs.Common.{◌≡◌, ◌∙◌, ◌==◌, ℕ, Bool, true, false, List, [], ◌∷◌, Some, None, Option, length, refl, ap, sym, subst, if◌then◌else◌}
 use Rattle.nrt_base.specs.declared.numbers.At.{At}
 use Rattle.nrt_base.specs.declared.numbers.NodeNo.{NodeNo}
-use Rattle.disk_model.specs.Disk.{Cells, Image, restarted}
+use Rattle.disk_model.specs.Disk.{Name, Cells, Image, restarted}
 use Rattle.disk_model.specs.Faults.{Plans, ended}
 use Rattle.std.specs.Prelude.{not, IsSomeAnd}
 use Rattle.history_rules.specs.declared.entry.Event.TheVariants.{Crashed}
@@ -17,17 +17,19 @@ use Rattle.merge_tasks.specs.Board.{Board}
 use Rattle.cluster_nodes.specs.declared.nodes.Node.{Node}
 use Rattle.cluster_nodes.specs.declared.nodes.Node.TheVariants.{Down}
 use Rattle.cluster_nodes.specs.declared.nodes.NodePlace.{NodePlace}
-use Rattle.cluster_nodes.specs.Lives.{CrashesIn, EndsPlansIn, CrashesByPick}
+use Rattle.cluster_nodes.specs.Lives.{EndsPlansIn, CrashesByPick}
 use Rattle.cluster_recovery.specs.Falls.{PlaceLoses, Falls}
 use Rattle.cluster_nodes.specs.Outs.{want_at}
 use Rattle.cluster_nodes.specs.Places.{place_of, dir_of}
 use Rattle.cluster_state.specs.JobsIn.{place_files, jobs_in}
 use Rattle.cluster_state.specs.LifeCalls.{crashed_tasks, CrashesDir}
 use Rattle.cluster_state.specs.Met.{ClusterStands}
+use Rattle.cluster_state.specs.NamesIn.{place_names, names_in}
 use Rattle.cluster_state.specs.NodeDirs.{IsNodeDir}
 use Rattle.cluster_state.specs.PlansIn.{place_plans, plans_in}
 use Rattle.cluster_state.proofs.MetStands.{plans_are}
 use Rattle.cluster_state.proofs.JobsLeft.{files_are}
+use Rattle.cluster_state.proofs.NodeDirs.{names_are}
 use Rattle.cluster_recovery.proofs.Outliving.{jobs_outlive}
 use Rattle.cluster_state.specs.Run.{Run, Rest, files_at, plans_at}
 use Rattle.cluster_state.specs.State.{Shows}
@@ -41,12 +43,13 @@ use Rattle.cluster_state.proofs.MergingStill.{stand_moved}
 use Rattle.merge_tasks.proofs.TaskFrames.{tasks_still}
 use Rattle.cluster_recovery.proofs.Crashing.{crash_keeps, crash_sent}
 use Rattle.cluster_recovery.proofs.FallenMerges.{lost_all, lost_all_files, lost_jobs, fallen}
+use Rattle.cluster_recovery.proofs.DownFirst.{CrashesBefore}
 
 module _ {D : Type 0} (cells : D → Cells) where
   pub crash_all : (r : Run) (ended : Bool) (b0 b1 b2 : Sheet) (board now : Board) (old mid new : List (Option (NodePlace D))) (at : At) (n : NodeNo) (reigning : Option NodeNo) → {left : Rest} → record { ended = ended; nodes = b0.nodes; log = b0.log; rest = left } ≡ r → r.ended ≡ false
       → (ended ≡ false → Shows cells b0.log b0.nodes old × FilesShow cells b0.log b0.nodes old) → MergesStand b0.log b0.cut b0.nodes board old → b1.log ≡ b0.log → b1.nodes ≡ b0.nodes → b1.cut ≡ b0.cut → b2.log ≡ shown at (Crashed n) ∷ b1.log → b2.nodes ≡ b1.nodes
       → b2.cut ≡ (if is_at (primary_of (printed b1.log)) n.0 then false else b1.cut) → IsLegalPast b1.nodes (printed b1.log) → AreInTurn (printed b1.log) → FilesLast → ((m : ℕ) → primary_of (printed b2.log) ≡ None → job_at m b2.log ≡ None) → start_entry at (printed b0.log) ≡ None
-      → IsNode r.nodes n.0 → is_running n.0 (printed r.log) ≡ true → reigning ≡ primary_of (printed r.log) → CrashesIn cells reigning n.0 old mid → Shows cells b2.log b2.nodes mid × FilesShow cells b2.log b2.nodes mid
+      → IsNode r.nodes n.0 → is_running n.0 (printed r.log) ≡ true → reigning ≡ primary_of (printed r.log) → CrashesBefore cells reigning n.0 old mid → Shows cells b2.log b2.nodes mid × FilesShow cells b2.log b2.nodes mid
       → (is_at reigning n.0 ≡ true → Falls cells board now mid new) → (is_at reigning n.0 ≡ false → (now ≡ board) × (new ≡ mid)) → Shows cells b2.log b2.nodes new × FilesShow cells b2.log b2.nodes new × MergesStand b2.log b2.cut b2.nodes now new
   crash_all r ended b0 b1 b2 board now old mid new at n reigning view running pair stand e1 n1 c1 e2 n2 c2 legal turns lasting vacant begun node up is crashed_so both falls stays = tests (is_at reigning n.0) refl
     where
@@ -80,8 +83,8 @@ module _ {D : Type 0} (cells : D → Cells) where
       vacant_r : (k : ℕ) → primary_of (printed (shown at (Crashed n) ∷ r.log)) ≡ None → job_at k (shown at (Crashed n) ∷ r.log) ≡ None
       vacant_r = subst (λ (l : Log). (k : ℕ) → primary_of (printed l) ≡ None → job_at k l ≡ None) log vacant
 
-      crashes : CrashesIn cells (primary_of (printed r.log)) n.0 old mid
-      crashes = subst (λ (o : Option NodeNo). CrashesIn cells o n.0 old mid) is crashed_so
+      crashes : CrashesBefore cells (primary_of (printed r.log)) n.0 old mid
+      crashes = subst (λ (o : Option NodeNo). CrashesBefore cells o n.0 old mid) is crashed_so
 
       shows_mid : Shows cells (shown at (Crashed n) ∷ r.log) r.nodes mid
       shows_mid = subst (λ (x : Log × ℕ). Shows cells x.0 x.1 mid) (λ i. (log i, size i)) both.0
@@ -123,7 +126,7 @@ module _ {D : Type 0} (cells : D → Cells) where
           (crash_keeps cells r.nodes r.log old mid at n legal_r turns_r rule none crashes lasting vacant_r node s f far) m))
 
   -- there are as many places as before
-  pub crash_count : (primary : Option NodeNo) (n : ℕ) (old mid new : List (Option (NodePlace D))) (board now : Board) → CrashesIn cells primary n old mid → (is_at primary n ≡ true → Falls cells board now mid new) → (is_at primary n ≡ false → (now ≡ board) × (new ≡ mid)) → length new ≡ length old
+  pub crash_count : (primary : Option NodeNo) (n : ℕ) (old mid new : List (Option (NodePlace D))) (board now : Board) → CrashesBefore cells primary n old mid → (is_at primary n ≡ true → Falls cells board now mid new) → (is_at primary n ≡ false → (now ≡ board) × (new ≡ mid)) → length new ≡ length old
   crash_count primary n old mid new board now b falls stays = kept (is_at primary n) refl ∙ b.count
     where
       kept : (t : Bool) → is_at primary n ≡ t → length new ≡ length mid
@@ -139,7 +142,7 @@ module _ {D : Type 0} (cells : D → Cells) where
       by false fell kept = (kept refl).0
 
   -- what the jobs of the other nodes lack and have is as before
-  pub crash_jobs : (r x : Run) (old mid new : List (Option (NodePlace D))) (primary : Option NodeNo) (n : NodeNo) (board now : Board) → r.rest.jobs ≡ jobs_in old → x.rest.jobs ≡ jobs_in new → CrashesIn cells primary n.0 old mid
+  pub crash_jobs : (r x : Run) (old mid new : List (Option (NodePlace D))) (primary : Option NodeNo) (n : NodeNo) (board now : Board) → r.rest.jobs ≡ jobs_in old → x.rest.jobs ≡ jobs_in new → CrashesBefore cells primary n.0 old mid
       → (is_at primary n.0 ≡ true → Falls cells board now mid new) → (is_at primary n.0 ≡ false → (now ≡ board) × (new ≡ mid)) → (m : ℕ) → (n.0 == m) ≡ false → files_at m x ≡ files_at m r
   crash_jobs r x old mid new primary n board now before after b falls stays m apart =
       files_are m x new after
@@ -152,7 +155,7 @@ module _ {D : Type 0} (cells : D → Cells) where
 
 module _ {D : Type 0} (cells : D → Cells) (planned : D → Plans) where
   -- the plans for the node's disk ended with it
-  pub crash_plans : (r x : Run) (old mid new : List (Option (NodePlace D))) (primary : Option NodeNo) (n : NodeNo) (board now : Board) → r.rest.plans ≡ plans_in planned old → x.rest.plans ≡ plans_in planned new → CrashesIn cells primary n.0 old mid → EndsPlansIn planned n.0 old mid
+  pub crash_plans : (r x : Run) (old mid new : List (Option (NodePlace D))) (primary : Option NodeNo) (n : NodeNo) (board now : Board) → r.rest.plans ≡ plans_in planned old → x.rest.plans ≡ plans_in planned new → CrashesBefore cells primary n.0 old mid → EndsPlansIn planned n.0 old mid
       → (is_at primary n.0 ≡ true → Falls cells board now mid new) → (is_at primary n.0 ≡ false → (now ≡ board) × (new ≡ mid)) → plans_at n.0 x ≡ ended (plans_at n.0 r)
   crash_plans r x old mid new primary n board now before after b ends falls stays =
       plans_are planned n.0 x new after
@@ -172,11 +175,11 @@ module _ {D : Type 0} (cells : D → Cells) (planned : D → Plans) where
       kept true e = of_down (place_of new n.0) (subst (λ (o : Option (NodePlace D)). PlaceLoses cells n.0 board.rows o (place_of new n.0)) b.here ((falls e).lose.each n.0)) ∙ ap (place_plans planned) (sym b.here)
       kept false e = ap (λ (l : List (Option (NodePlace D))). place_plans planned (place_of l n.0)) (stays e).1
 
-module _ {D : Type 0} (cells : D → Cells) (leaves : D → ℕ → Image) where
+module _ {D : Type 0} (cells : D → Cells) (names : D → List Name) (leaves : D → ℕ → Image) where
   -- the node's directory is what the crash with this number leaves of it
-  pub crash_dir : (r x : Run) (old mid new : List (Option (NodePlace D))) (primary : Option NodeNo) (n : NodeNo) (pick : ℕ) (board now : Board) → ((place : NodePlace D) → place_of old n.0 ≡ Some place → IsNodeDir cells r n.0 (dir_of place.node)) → ClusterStands cells x.nodes new x.rest.cut x.rest.tasks x.log
-      → CrashesIn cells primary n.0 old mid → CrashesByPick cells leaves n.0 pick old mid → (is_at primary n.0 ≡ true → Falls cells board now mid new) → (is_at primary n.0 ≡ false → (now ≡ board) × (new ≡ mid)) → CrashesDir cells leaves n.0 pick r x
-  crash_dir r x old mid new primary n pick board now before stands b picked falls stays = record {
+  pub crash_dir : (r x : Run) (old mid new : List (Option (NodePlace D))) (primary : Option NodeNo) (n : NodeNo) (pick : ℕ) (board now : Board) → ((place : NodePlace D) → place_of old n.0 ≡ Some place → IsNodeDir cells names r n.0 (dir_of place.node)) → ClusterStands cells x.nodes new x.rest.cut x.rest.tasks x.log → x.rest.names ≡ names_in names new
+      → CrashesBefore cells primary n.0 old mid → CrashesByPick cells leaves n.0 pick old mid → (is_at primary n.0 ≡ true → Falls cells board now mid new) → (is_at primary n.0 ≡ false → (now ≡ board) × (new ≡ mid)) → CrashesDir cells names leaves n.0 pick r x
+  crash_dir r x old mid new primary n pick board now before stands named b picked falls stays = record {
     dir = dir_of b.place.node;
     was = before b.place b.there;
     now = b.dir;
@@ -198,6 +201,6 @@ module _ {D : Type 0} (cells : D → Cells) (leaves : D → ℕ → Image) where
       kept true e = of_down (place_of new n.0) (subst (λ (o : Option (NodePlace D)). PlaceLoses cells n.0 board.rows o (place_of new n.0)) b.here ((falls e).lose.each n.0))
       kept false e = subst (λ (o : Option (NodePlace D)). IsSomeAnd o (λ z. b.dir ≡ dir_of z.node)) (sym (ap (λ (l : List (Option (NodePlace D))). place_of l n.0) (stays e).1 ∙ b.here)) refl
 
-      at_new : (o : Option (NodePlace D)) → place_of new n.0 ≡ o → IsSomeAnd o (λ z. b.dir ≡ dir_of z.node) → IsNodeDir cells x n.0 b.dir
+      at_new : (o : Option (NodePlace D)) → place_of new n.0 ≡ o → IsSomeAnd o (λ z. b.dir ≡ dir_of z.node) → IsNodeDir cells names x n.0 b.dir
       at_new None e none = absurd none
-      at_new (Some z) e is = record { places = new; stands = stands; place = z; there = e; is = is }
+      at_new (Some z) e is = record { places = new; stands = stands; place = z; there = e; is = is; told = names_are names n.0 x new named ∙ (ap (place_names names) e ∙ ap names (sym is)) }

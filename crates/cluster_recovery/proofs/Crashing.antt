@@ -70,7 +70,6 @@ use Rattle.cluster_nodes.specs.Places.{Disk, place_of, disk_of, disk_at, dir_of,
 use Rattle.cluster_nodes.specs.Outs.{one_like, want_at, jobs_like, states_like}
 use Rattle.cluster_nodes.specs.JobChanges.{given_back}
 use Rattle.cluster_nodes.specs.Ends.{StopsJob, StopsNodeJob, TakesBack, CanTakeBack, CanEnd, NodeOutlives, PlaceOutlives}
-use Rattle.cluster_nodes.specs.Lives.{CrashesIn}
 use Rattle.cluster_nodes.proofs.OutCounts.{jobs_moved, jobs_none, job_counted, states_given, is_there}
 use Rattle.cluster_state.specs.Lookups.{IsSearching}
 use Rattle.cluster_state.specs.State.{NodeShows, PlaceShows, Shows, HoldsTickets}
@@ -95,6 +94,7 @@ use Rattle.cluster_state.proofs.FileJobs.{PrimaryHere, primary_here, stopped_sho
 use Rattle.cluster_state.proofs.Turning.{past_has}
 use Rattle.cluster_state.proofs.PointStands.{opening_stands, opening_writable}
 use Rattle.cluster_recovery.proofs.Outliving.{place_outlives, disk_outlives, names_outlive, wants_end, wants_stay, each_outlives}
+use Rattle.cluster_recovery.proofs.DownFirst.{CrashesBefore}
 
 -- ---- the past
 
@@ -334,7 +334,7 @@ module _ {D : Type 0} (cells : D → Cells) where
       node (Down d) shows files disk left = absurd (true≢false (sym rule.running ∙ shows.down))
 
   module _ (size : ℕ) (log : Log) (old new : List (Option (NodePlace D))) (at : At) (n : NodeNo) (legal : IsLegalPast size (printed log)) (turns : AreInTurn (printed log)) (rule : KeepsRule size (printed log) at (Crashed n))
-      (none : start_entry at (printed log) ≡ None) (b : CrashesIn cells (primary_of (printed log)) n.0 old new) where
+      (none : start_entry at (printed log) ≡ None) (b : CrashesBefore cells (primary_of (printed log)) n.0 old new) where
     abbrev now : Log
     now = shown at (Crashed n) ∷ log
 
@@ -617,7 +617,7 @@ module _ {D : Type 0} (cells : D → Cells) where
   pub crash_path : (r : Run) (ended : Bool) (b0 b1 b2 : Sheet) (old new : List (Option (NodePlace D))) (at : At) (n : NodeNo) (reigning : Option NodeNo) → {left : Rest} → record { ended = ended; nodes = b0.nodes; log = b0.log; rest = left } ≡ r → r.ended ≡ false
       → (ended ≡ false → Shows cells b0.log b0.nodes old × FilesShow cells b0.log b0.nodes old) → b1.log ≡ b0.log → b1.nodes ≡ b0.nodes → b2.log ≡ shown at (Crashed n) ∷ b1.log → b2.nodes ≡ b1.nodes
       → IsLegalPast b1.nodes (printed b1.log) → AreInTurn (printed b1.log) → FilesLast → ((m : ℕ) → primary_of (printed b2.log) ≡ None → job_at m b2.log ≡ None) → start_entry at (printed b0.log) ≡ None → IsNode r.nodes n.0
-      → is_running n.0 (printed r.log) ≡ true → reigning ≡ primary_of (printed r.log) → CrashesIn cells reigning n.0 old new → Shows cells b2.log b2.nodes new × FilesShow cells b2.log b2.nodes new
+      → is_running n.0 (printed r.log) ≡ true → reigning ≡ primary_of (printed r.log) → CrashesBefore cells reigning n.0 old new → Shows cells b2.log b2.nodes new × FilesShow cells b2.log b2.nodes new
   crash_path r ended b0 b1 b2 old new at n reigning view running pair e1 n1 e2 n2 legal turns lasting vacant begun node up is crashed_so =
       let b = before cells r ended b0 b1 view e1 n1 legal turns in
       let log : b2.log ≡ shown at (Crashed n) ∷ r.log = e2 ∙ ap (λ (l : Log). shown at (Crashed n) ∷ l) b.log in
@@ -627,7 +627,7 @@ module _ {D : Type 0} (cells : D → Cells) where
       let f = files_was cells r ended b0.nodes b0.log old view running (λ e. (pair e).1) in
       let rule : KeepsRule r.nodes (printed r.log) at (Crashed n) = record { node = node; running = up } in
       let vacant_now = subst (λ (l : Log). (m : ℕ) → primary_of (printed l) ≡ None → job_at m l ≡ None) log vacant in
-      let crashes = subst (λ (o : Option NodeNo). CrashesIn cells o n.0 old new) is crashed_so in (
+      let crashes = subst (λ (o : Option NodeNo). CrashesBefore cells o n.0 old new) is crashed_so in (
         now_is cells (shown at (Crashed n) ∷ r.log) b2.log r.nodes b2.nodes new log size (crashed_shows r.nodes r.log old new at n b.legal b.turns rule none crashes s),
         files_is cells (shown at (Crashed n) ∷ r.log) b2.log r.nodes b2.nodes new log size (crashed_files r.nodes r.log old new at n b.legal b.turns rule none crashes lasting vacant_now node s f),
       )

@@ -32,7 +32,7 @@ use Rattle.commit_steps.specs.Found.{ShowsCommit}
 use Rattle.commit_steps.specs.declared.states.Commit.{Commit}
 use Rattle.commit_steps.specs.declared.stage.CommitBook.{CommitBook}
 use Rattle.commit_steps.specs.declared.stage.Stage.{Stage}
-use Rattle.replica_opening.specs.Opening.{opening_infos, FindsPoint, number_of_last}
+use Rattle.replica_opening.specs.Opening.{opening_infos, CanOpen, FindsPoint, number_of_last}
 use Rattle.replica_opening.specs.Opened.{IsSettledAt, IsSettledOn}
 use Rattle.replica_node.specs.declared.parts.ReplicaParts.{ReplicaParts}
 use Rattle.replica_node.specs.declared.taking.NodeParts.{NodeParts}
@@ -74,6 +74,10 @@ no_commit cells n infos empty shows = none-some shows.bytes (sym (sym shows.newe
 pub finds_opening : (cells : Cells) (last : Option Commit) (infos : Infos) → IsEmptyDir cells → FindsPoint (reads_of cells) (number_of_last last) infos → (last ≡ None) × (infos ≡ opening_infos)
 finds_opening cells None infos empty finds = (refl, finds.1)
 finds_opening cells (Some c) infos empty finds = absurd (no_commit cells c.number infos empty finds)
+
+-- it opens
+pub empty_opens : (cells : Cells) → IsEmptyDir cells → CanOpen (reads_of cells)
+empty_opens cells empty = inl (λ q commit. empty.now q)
 
 -- each image shows what it shows
 pub empty_settled : (cells : Cells) → IsEmptyDir cells → IsSettledOn cells

@@ -5,7 +5,7 @@ use Rattle.std.proofs.lemmas.Bool.{eqb-true, eq-eqb}
 use Rattle.std.proofs.lemmas.Option.{slice_get_within}
 use Rattle.nrt_base.specs.declared.numbers.At.{At}
 use Rattle.nrt_base.specs.declared.numbers.NodeNo.{NodeNo}
-use Rattle.disk_model.specs.Disk.{Cells}
+use Rattle.disk_model.specs.Disk.{Name, Cells}
 use Rattle.disk_model.specs.Faults.{Plans}
 use Rattle.copy_job.specs.Jobs.{Job}
 use Rattle.history_rules.specs.declared.entry.Event.TheVariants.{Crashed}
@@ -23,7 +23,6 @@ use Rattle.cluster_nodes.specs.declared.nodes.Node.TheVariants.{Primary, Replica
 use Rattle.cluster_nodes.specs.declared.nodes.NodePlace.{NodePlace}
 use Rattle.cluster_nodes.specs.Ends.{TakesNodeBack, PlaceOutlives}
 use Rattle.cluster_nodes.specs.Given.{merge_sizes}
-use Rattle.cluster_nodes.specs.Lives.{CrashesIn}
 use Rattle.cluster_nodes.specs.Outs.{want_at, jobs_like}
 use Rattle.cluster_nodes.specs.Places.{Disk, place_of, unwrapped}
 use Rattle.cluster_state.specs.CallsLeft.{stage_calls, book_calls, own_calls, has_own, place_calls, calls_in}
@@ -33,19 +32,22 @@ use Rattle.cluster_state.specs.LifeCalls.{crashed_tasks}
 use Rattle.cluster_state.specs.MergedCopies.{told_copy, place_copies, copies_in}
 use Rattle.cluster_state.specs.Merging.{AreSentCopies, NodeMerges}
 use Rattle.cluster_state.specs.Met.{ClusterStands}
+use Rattle.cluster_state.specs.NamesIn.{place_names, names_in}
 use Rattle.cluster_state.specs.PlansIn.{plans_in}
 use Rattle.cluster_state.specs.Run.{Rest, Run, calls_at}
 use Rattle.cluster_state.specs.Sizes.{sizes_in}
 use Rattle.cluster_state.specs.State.{NodeShows, PlaceShows, Shows}
 use Rattle.cluster_state.proofs.JobsLeft.{files_are}
 use Rattle.cluster_state.proofs.KeptOthers.{merged_are}
+use Rattle.cluster_state.proofs.NodeDirs.{names_are}
 use Rattle.cluster_state.proofs.RestKept.{first_sizes, place_sizes, sizes_first, TellsSame}
-use Rattle.cluster_recovery.specs.Crashes.{TellsNothingOf, PrimaryFell, CrashTells}
+use Rattle.cluster_recovery.specs.Crashes.{TellsNothingOf, PrimaryFell, KeepsOtherNames, CrashTells}
 use Rattle.cluster_recovery.specs.Falls.{PlaceLoses, Falls}
 use Rattle.cluster_recovery.proofs.CallsLeft.{calls_there}
 use Rattle.cluster_recovery.proofs.FallenMerges.{same_disk, lost_jobs}
 use Rattle.cluster_recovery.proofs.KeptLives.{OwnsSame, MovesNode, calls_others, node_kept}
 use Rattle.cluster_recovery.proofs.Outliving.{disk_outlives, jobs_outlive}
+use Rattle.cluster_recovery.proofs.DownFirst.{CrashesBefore}
 
 -- the copies at a node where no merge is in flight: none
 no_copies : (m : ℕ) (running : List Job) → AreSentCopies [] m running → running ≡ []
@@ -76,6 +78,12 @@ module _ {D : Type 0} (cells : D → Cells) where
       }
       by a b held kept back = absurd back
 
+  -- a node that is not the primary is as before, where a replica crashed
+  outlived_same : (state : Option Out) (o w : Option (NodePlace D)) → PlaceOutlives cells false false state o w → w ≡ o
+  outlived_same state None w is = is
+  outlived_same state (Some x) None is = absurd is
+  outlived_same state (Some x) (Some y) is = λ i. Some (record { node = is.node i; held = is.held i })
+
   -- the same is told of another node, where a replica crashed
   outlived : (this : Bool) (state : Option Out) (o w : Option (NodePlace D)) → PlaceOutlives cells false this state o w → TellsSame o w
   outlived this state None w is = subst (λ (z : Option (NodePlace D)). TellsSame None z) (sym is) (tells_itself None)
@@ -83,7 +91,7 @@ module _ {D : Type 0} (cells : D → Cells) where
   outlived true state (Some x) (Some y) is = took_back state x y is.node
   outlived false state (Some x) (Some y) is = subst (λ (z : NodePlace D). TellsSame (Some x) (Some z)) (λ i. record { node = sym is.node i; held = sym is.held i }) (tells_itself (Some x))
 
-  pub replica_crashed : (primary : Option NodeNo) (n : ℕ) (old new : List (Option (NodePlace D))) → CrashesIn cells primary n old new → is_at primary n ≡ false → place_sizes (place_of old n) ≡ None → MovesNode n old new
+  pub replica_crashed : (primary : Option NodeNo) (n : ℕ) (old new : List (Option (NodePlace D))) → CrashesBefore cells primary n old new → is_at primary n ≡ false → place_sizes (place_of old n) ≡ None → MovesNode n old new
   replica_crashed primary n old new b away none = record { count = b.count; sizes = sizes; others = others }
     where
       others : (m : ℕ) → (n == m) ≡ false → TellsSame (place_of old m) (place_of new m)
@@ -139,7 +147,7 @@ module _ {D : Type 0} (cells : D → Cells) where
     vacant_sizes : sizes_in places ≡ []
     vacant_sizes = sizes_first places ∙ none_sized places (of_each place_sizes None refl (λ m node. other_sizes log size m places stand.0 node (ap (λ (o : Option NodeNo). is_at o m) none)))
 
-    vacant_copies : (m : ℕ) → place_copies (place_of places m) ≡ []
+    pub vacant_copies : (m : ℕ) → place_copies (place_of places m) ≡ []
     vacant_copies zero = refl
     vacant_copies (suc k) = of_each place_copies [] refl
         (λ m node. other_copies log cut (λ s. jobs_like places s size) m (place_of places m)
@@ -164,10 +172,10 @@ module _ {D : Type 0} (cells : D → Cells) where
 
 -- ---- in the terms of a call
 
-module _ {D : Type 0} (cells : D → Cells) (planned : D → Plans) (r now : Run) (carries later : List Bool) (cut after : Bool) (board next : Board) (old mid new : List (Option (NodePlace D)))
-    (was : record { calls_left = calls_in carries old; cut = cut; sizes = sizes_in old; jobs = jobs_in old; copies = copies_in old; tasks = board; plans = plans_in planned old } ≡ r.rest)
-    (is : record { calls_left = calls_in later new; cut = after; sizes = sizes_in new; jobs = jobs_in new; copies = copies_in new; tasks = next; plans = plans_in planned new } ≡ now.rest)
-    (primary : Option NodeNo) (n : ℕ) (b : CrashesIn cells primary n old mid) (falls : is_at primary n ≡ true → Falls cells board next mid new) (stays : is_at primary n ≡ false → (next ≡ board) × (new ≡ mid))
+module _ {D : Type 0} (cells : D → Cells) (planned : D → Plans) (names : D → List Name) (r now : Run) (carries later : List Bool) (cut after : Bool) (board next : Board) (old mid new : List (Option (NodePlace D)))
+    (was : record { calls_left = calls_in carries old; cut = cut; sizes = sizes_in old; jobs = jobs_in old; copies = copies_in old; tasks = board; plans = plans_in planned old; names = names_in names old } ≡ r.rest)
+    (is : record { calls_left = calls_in later new; cut = after; sizes = sizes_in new; jobs = jobs_in new; copies = copies_in new; tasks = next; plans = plans_in planned new; names = names_in names new } ≡ now.rest)
+    (primary : Option NodeNo) (n : ℕ) (b : CrashesBefore cells primary n old mid) (falls : is_at primary n ≡ true → Falls cells board next mid new) (stays : is_at primary n ≡ false → (next ≡ board) × (new ≡ mid))
     (owns : OwnsSame n carries later) where
   -- nothing is told of the node itself
   crash_bare : has_own n later ≡ false → TellsNothingOf n now
@@ -191,8 +199,8 @@ module _ {D : Type 0} (cells : D → Cells) (planned : D → Plans) (r now : Run
   crash_apart : is_at primary n ≡ false → after ≡ cut → place_sizes (place_of old n) ≡ None → KeepsButNode n r now
   crash_apart away same none =
       let kept = stays away in
-      node_kept planned r now carries later cut after board old new was
-      ((λ i. record { calls_left = calls_in later new; cut = after; sizes = sizes_in new; jobs = jobs_in new; copies = copies_in new; tasks = sym kept.0 i; plans = plans_in planned new }) ∙ is)
+      node_kept planned names r now carries later cut after board old new was
+      ((λ i. record { calls_left = calls_in later new; cut = after; sizes = sizes_in new; jobs = jobs_in new; copies = copies_in new; tasks = sym kept.0 i; plans = plans_in planned new; names = names_in names new }) ∙ is)
       same n (subst (MovesNode n old) (sym kept.1) (replica_crashed cells primary n old mid b away none)) owns
 
   -- the primary crashed
@@ -212,11 +220,20 @@ module _ {D : Type 0} (cells : D → Cells) (planned : D → Plans) (r now : Run
             ∙ sym (files_are m r old (sym (ap (λ (x : Rest). x.jobs) was)))));
       }
 
+  -- and the files of the others but the primary have the names that they had
+  crash_names : is_at primary n ≡ false → primary ≡ primary_of (printed r.log) → KeepsOtherNames n r now
+  crash_names away reign m other apart =
+      let same = outlived_same cells (want_at (place_of old n)) (place_of old m) (place_of mid m)
+      (subst (λ (t : Bool × Bool). PlaceOutlives cells t.0 t.1 (want_at (place_of old n)) (place_of old m) (place_of mid m)) (λ i. (away i, (ap (λ (o : Option NodeNo). is_at o m) reign ∙ other) i)) (b.others m apart)) in
+      names_are names m now new (sym (ap (λ (x : Rest). x.names) is))
+      ∙ (ap (place_names names) (ap (λ (l : List (Option (NodePlace D))). place_of l m) (stays away).1 ∙ same)
+      ∙ sym (names_are names m r old (sym (ap (λ (x : Rest). x.names) was))))
+
   -- by which of them it was
-  pub crash_told : (p : Option NodeNo) → primary ≡ p → after ≡ (if is_at primary n then false else cut) → (is_at primary n ≡ false → place_sizes (place_of old n) ≡ None)
-      → (log : Log) (size : ℕ) → ClusterStands cells size new after next log → (is_at primary n ≡ true → primary_of (printed log) ≡ None) → has_own n later ≡ false → CrashTells true (is_at p n) n r now
-  crash_told p is_p cut_is sized log size stand vacant none = subst (λ (o : Option NodeNo). CrashTells true (is_at o n) n r now) is_p (by (is_at primary n) refl)
+  pub crash_told : primary ≡ primary_of (printed r.log) → after ≡ (if is_at primary n then false else cut) → (is_at primary n ≡ false → place_sizes (place_of old n) ≡ None)
+      → (log : Log) (size : ℕ) → ClusterStands cells size new after next log → (is_at primary n ≡ true → primary_of (printed log) ≡ None) → has_own n later ≡ false → CrashTells true (is_at (primary_of (printed r.log)) n) n r now
+  crash_told is_p cut_is sized log size stand vacant none = subst (λ (o : Option NodeNo). CrashTells true (is_at o n) n r now) is_p (by (is_at primary n) refl)
     where
       by : (t : Bool) → is_at primary n ≡ t → CrashTells true (is_at primary n) n r now
       by true e = subst (λ (t : Bool). CrashTells true t n r now) (sym e) (crash_falls e (cut_is ∙ ap (λ (t : Bool). if t then false else cut) e) log size stand (vacant e), crash_bare none)
-      by false e = subst (λ (t : Bool). CrashTells true t n r now) (sym e) (crash_apart e (cut_is ∙ ap (λ (t : Bool). if t then false else cut) e) (sized e), crash_bare none)
+      by false e = subst (λ (t : Bool). CrashTells true t n r now) (sym e) (crash_apart e (cut_is ∙ ap (λ (t : Bool). if t then false else cut) e) (sized e), crash_bare none, crash_names e is_p)

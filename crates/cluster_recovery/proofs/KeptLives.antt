@@ -1,7 +1,7 @@
 -- What callers are told beside the log where the commit of one node moved, and where one node reopened.
 use Rattle.std.proofs.Common.{◌≡◌, ◌==◌, ◌+◌, ◌-◌, ◌≤◌, ℕ, zero, suc, Bool, true, false, true≢false, List, [], ◌∷◌, map, length, get_or, Some, None, Option, Vec, Global, slice_get, refl, ap, ◌∙◌, sym, subst, arith}
 use Rattle.std.specs.Prelude.{unwrap_or, IsSomeAnd, OnOk, Result, Ok, Err}
-use Rattle.disk_model.specs.Disk.{Cells}
+use Rattle.disk_model.specs.Disk.{Name, Cells}
 use Rattle.disk_model.specs.Faults.{Plans}
 use Rattle.segment_infos.specs.declared.infos.Infos.{Infos}
 use Rattle.commit_steps.specs.declared.stage.CommitBook.{CommitBook}
@@ -19,17 +19,19 @@ use Rattle.cluster_nodes.specs.Commits.{AltersCommits, CommitsIn, StepsBook}
 use Rattle.cluster_nodes.specs.Given.{merge_sizes}
 use Rattle.cluster_nodes.specs.JobPlaces.{MovesOne}
 use Rattle.cluster_nodes.specs.Places.{place_of, unwrapped}
-use Rattle.cluster_state.specs.Run.{MergedCopy, Rest, Run, no_plans, calls_at, merged_at, plans_at, KeepsRest}
+use Rattle.cluster_state.specs.Run.{MergedCopy, Rest, Run, no_plans, calls_at, merged_at, names_at, plans_at, KeepsRest}
 use Rattle.cluster_state.specs.Keeping.{TellsSameOfOthers, KeepsButCommit, KeepsButNode}
 use Rattle.cluster_state.specs.CallsLeft.{own_calls, has_own, place_calls, with_own, calls_in}
 use Rattle.cluster_state.specs.JobsIn.{job_files, place_files, jobs_in}
 use Rattle.cluster_state.specs.MergedCopies.{told_copy, place_copies, copies_in}
+use Rattle.cluster_state.specs.NamesIn.{names_in}
 use Rattle.cluster_state.specs.PlansIn.{place_plans, plans_in}
 use Rattle.cluster_state.specs.Sizes.{sizes_in}
 use Rattle.cluster_state.specs.State.{NodeShows, PlaceShows, Shows}
 use Rattle.cluster_state.proofs.JobsLeft.{files_are, files_same}
 use Rattle.cluster_state.proofs.KeptOthers.{told_apart, told_one, merged_are}
 use Rattle.cluster_state.proofs.MetStands.{plans_are}
+use Rattle.cluster_state.proofs.NodeDirs.{names_apart, names_same}
 use Rattle.cluster_recovery.specs.Commits.{CarriesIn}
 use Rattle.cluster_state.proofs.RestKept.{first_sizes, place_sizes, sizes_first, map_same, TellsSame}
 
@@ -87,9 +89,10 @@ module _ {D : Type 0} (cells : D → Cells) (planned : D → Plans) where
     pub copies : (m : ℕ) → place_copies (place_of new m) ≡ place_copies (place_of old m)
     pub calls : (m : ℕ) → (n == m) ≡ false → place_calls (place_of new m) ≡ place_calls (place_of old m)
     pub plans : (m : ℕ) → (n == m) ≡ false → place_plans planned (place_of new m) ≡ place_plans planned (place_of old m)
+    pub others : (m : ℕ) → (n == m) ≡ false → place_of new m ≡ place_of old m
 
   pub none_commits : (n : ℕ) (places : List (Option (NodePlace D))) → MovesCommit n places places
-  none_commits n places = record { count = refl; sizes = λ m. refl; files = λ m. refl; copies = λ m. refl; calls = λ m apart. refl; plans = λ m apart. refl }
+  none_commits n places = record { count = refl; sizes = λ m. refl; files = λ m. refl; copies = λ m. refl; calls = λ m apart. refl; plans = λ m apart. refl; others = λ m apart. refl }
 
   pub then_commits : (n : ℕ) (a b c : List (Option (NodePlace D))) → MovesCommit n a b → MovesCommit n b c → MovesCommit n a c
   then_commits n a b c first second = record {
@@ -99,6 +102,7 @@ module _ {D : Type 0} (cells : D → Cells) (planned : D → Plans) where
     copies = λ m. second.copies m ∙ first.copies m;
     calls = λ m apart. second.calls m apart ∙ first.calls m apart;
     plans = λ m apart. second.plans m apart ∙ first.plans m apart;
+    others = λ m apart. second.others m apart ∙ first.others m apart;
   }
 
   module _ (Step : Infos → CommitBook → CommitBook → Type 0) where
@@ -136,6 +140,7 @@ module _ {D : Type 0} (cells : D → Cells) (planned : D → Plans) where
           copies = told_one place_copies n y b.place old new b.there b.moves (node_copies_stay b.place y b.alters);
           calls = told_apart place_calls n y old new b.moves;
           plans = told_apart (place_plans planned) n y old new b.moves;
+          others = told_apart (λ o. o) n y old new b.moves;
         }
 
   -- the one that was stopped was made, and the line's own began
@@ -166,9 +171,9 @@ module _ {D : Type 0} where
 
 -- ---- in the terms of a call
 
-module _ {D : Type 0} (planned : D → Plans) (r now : Run) (carries later : List Bool) (cut after : Bool) (board : Board) (old new : List (Option (NodePlace D)))
-    (was : record { calls_left = calls_in carries old; cut = cut; sizes = sizes_in old; jobs = jobs_in old; copies = copies_in old; tasks = board; plans = plans_in planned old } ≡ r.rest)
-    (is : record { calls_left = calls_in later new; cut = after; sizes = sizes_in new; jobs = jobs_in new; copies = copies_in new; tasks = board; plans = plans_in planned new } ≡ now.rest) (same : after ≡ cut) where
+module _ {D : Type 0} (planned : D → Plans) (names : D → List Name) (r now : Run) (carries later : List Bool) (cut after : Bool) (board : Board) (old new : List (Option (NodePlace D)))
+    (was : record { calls_left = calls_in carries old; cut = cut; sizes = sizes_in old; jobs = jobs_in old; copies = copies_in old; tasks = board; plans = plans_in planned old; names = names_in names old } ≡ r.rest)
+    (is : record { calls_left = calls_in later new; cut = after; sizes = sizes_in new; jobs = jobs_in new; copies = copies_in new; tasks = board; plans = plans_in planned new; names = names_in names new } ≡ now.rest) (same : after ≡ cut) where
   -- the commit of one node moved
   pub commit_kept : (cells : D → Cells) (n : ℕ) → MovesCommit cells planned n old new → OwnsSame n carries later → KeepsButCommit n r now
   commit_kept cells n t owns = record {
@@ -177,10 +182,11 @@ module _ {D : Type 0} (planned : D → Plans) (r now : Run) (carries later : Lis
         let jobs : jobs_in new ≡ jobs_in old = map_same place_files old new t.count (λ k. t.files (suc k)) in
         let copies : copies_in new ≡ copies_in old = map_same place_copies old new t.count (λ k. t.copies (suc k)) in
         sym is
-        ∙ ((λ i. record { calls_left = calls_in later new; cut = same i; sizes = sizes i; jobs = jobs i; copies = copies i; tasks = board; plans = plans_in planned new })
-        ∙ (λ i. record (was i) { calls_left = (is i).calls_left; plans = (is i).plans }));
+        ∙ ((λ i. record { calls_left = calls_in later new; cut = same i; sizes = sizes i; jobs = jobs i; copies = copies i; tasks = board; plans = plans_in planned new; names = names_in names new })
+        ∙ (λ i. record (was i) { calls_left = (is i).calls_left; plans = (is i).plans; names = (is i).names }));
     calls = calls_others n r now carries later old new (sym (ap (λ (x : Rest). x.calls_left) was)) (sym (ap (λ (x : Rest). x.calls_left) is)) t.count t.calls owns;
     plans = λ m apart. plans_are planned m now new (sym (ap (λ (x : Rest). x.plans) is)) ∙ (t.plans m apart ∙ sym (plans_are planned m r old (sym (ap (λ (x : Rest). x.plans) was))));
+    names = names_apart names n r now old new (sym (ap (λ (x : Rest). x.names) was)) (sym (ap (λ (x : Rest). x.names) is)) t.others;
   }
 
   -- one node moved, or what is told of it alone
@@ -189,8 +195,8 @@ module _ {D : Type 0} (planned : D → Plans) (r now : Run) (carries later : Lis
     rest =
         let sizes : sizes_in new ≡ sizes_in old = sizes_first new ∙ (ap first_sizes (map_same place_sizes old new t.count (λ k. t.sizes (suc k))) ∙ sym (sizes_first old)) in
         sym is
-        ∙ ((λ i. record { calls_left = calls_in later new; cut = same i; sizes = sizes i; jobs = jobs_in new; copies = copies_in new; tasks = board; plans = plans_in planned new })
-        ∙ (λ i. record (was i) { calls_left = (is i).calls_left; jobs = (is i).jobs; copies = (is i).copies; plans = (is i).plans }));
+        ∙ ((λ i. record { calls_left = calls_in later new; cut = same i; sizes = sizes i; jobs = jobs_in new; copies = copies_in new; tasks = board; plans = plans_in planned new; names = names_in names new })
+        ∙ (λ i. record (was i) { calls_left = (is i).calls_left; jobs = (is i).jobs; copies = (is i).copies; plans = (is i).plans; names = (is i).names }));
     calls = calls_others n r now carries later old new (sym (ap (λ (x : Rest). x.calls_left) was)) (sym (ap (λ (x : Rest). x.calls_left) is)) t.count (λ m apart. (t.others m apart).calls) owns;
     files = λ m apart. files_are m now new (sym (ap (λ (x : Rest). x.jobs) is)) ∙ ((t.others m apart).files ∙ sym (files_are m r old (sym (ap (λ (x : Rest). x.jobs) was))));
     copies = λ m apart. merged_are m now new (sym (ap (λ (x : Rest). x.copies) is)) ∙ ((t.others m apart).copies ∙ sym (merged_are m r old (sym (ap (λ (x : Rest). x.copies) was))));
@@ -199,6 +205,10 @@ module _ {D : Type 0} (planned : D → Plans) (r now : Run) (carries later : Lis
   -- the disks of the others have met nothing
   pub disks_kept : (n : ℕ) (y : NodePlace D) → MovesOne n y old new → TellsSameOfOthers plans_at n r now
   disks_kept n y moves m apart = plans_are planned m now new (sym (ap (λ (x : Rest). x.plans) is)) ∙ (told_apart (place_plans planned) n y old new moves m apart ∙ sym (plans_are planned m r old (sym (ap (λ (x : Rest). x.plans) was))))
+
+  -- nor have their files other names
+  pub names_left : (n : ℕ) (y : NodePlace D) → MovesOne n y old new → TellsSameOfOthers names_at n r now
+  names_left n y moves = names_apart names n r now old new (sym (ap (λ (x : Rest). x.names) was)) (sym (ap (λ (x : Rest). x.names) is)) (told_apart (λ o. o) n y old new moves)
 
 -- ---- a node that is down
 
@@ -229,21 +239,25 @@ pub alike_plans : (n : ℕ) (old new : Run) → new.rest.plans ≡ old.rest.plan
 alike_plans n old new is zero apart = refl
 alike_plans n old new is (suc k) apart = ap (λ (l : List Plans). unwrap_or (slice_get l k) no_plans) is
 
-pub commit_same : (n : ℕ) (old new : Run) → KeepsRest old new → new.rest.plans ≡ old.rest.plans → KeepsButCommit n old new
-commit_same n old new kept plans = record {
-  rest = kept ∙ ap (λ (x : Rest). record old.rest { calls_left = x.calls_left; plans = new.rest.plans }) (sym kept);
+pub alike_names : (n : ℕ) (old new : Run) → new.rest.names ≡ old.rest.names → TellsSameOfOthers names_at n old new
+alike_names n old new is m apart = names_same old new is m
+
+pub commit_same : (n : ℕ) (old new : Run) → KeepsRest old new → new.rest.plans ≡ old.rest.plans → new.rest.names ≡ old.rest.names → KeepsButCommit n old new
+commit_same n old new kept plans names = record {
+  rest = kept ∙ ap (λ (x : Rest). record old.rest { calls_left = x.calls_left; plans = new.rest.plans; names = new.rest.names }) (sym kept);
   calls = alike_calls n old new (ap (λ (x : Rest). x.calls_left) kept);
   plans = alike_plans n old new plans;
+  names = alike_names n old new names;
 }
 
 pub node_same : (n : ℕ) (old new : Run) → KeepsRest old new → KeepsButNode n old new
 node_same n old new kept = record {
-  rest = kept ∙ ap (λ (x : Rest). record old.rest { calls_left = x.calls_left; jobs = x.jobs; copies = x.copies; plans = new.rest.plans }) (sym kept);
+  rest = kept ∙ ap (λ (x : Rest). record old.rest { calls_left = x.calls_left; jobs = x.jobs; copies = x.copies; plans = new.rest.plans; names = new.rest.names }) (sym kept);
   calls = alike_calls n old new (ap (λ (x : Rest). x.calls_left) kept);
   files = λ m apart. files_same m old new (ap (λ (x : Rest). x.jobs) kept);
   copies = alike_copies n old new (ap (λ (x : Rest). x.copies) kept);
 }
 
-pub commit_refused : {T E : Type 0} (r : Result T E) (n : ℕ) (old new : Run) → OnOk r (KeepsRest old new) → OnOk r (new.rest.plans ≡ old.rest.plans) → OnOk r (KeepsButCommit n old new)
-commit_refused (Ok x) n old new kept plans = commit_same n old new kept plans
-commit_refused (Err e) n old new kept plans = tt
+pub commit_refused : {T E : Type 0} (r : Result T E) (n : ℕ) (old new : Run) → OnOk r (KeepsRest old new) → OnOk r (new.rest.plans ≡ old.rest.plans) → OnOk r (new.rest.names ≡ old.rest.names) → OnOk r (KeepsButCommit n old new)
+commit_refused (Ok x) n old new kept plans names = commit_same n old new kept plans names
+commit_refused (Err e) n old new kept plans names = tt

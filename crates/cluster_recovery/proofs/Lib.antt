@@ -4,6 +4,7 @@ mod CommitPaths
 mod Committing
 mod CrashMerges
 mod Crashing
+mod DownFirst
 mod Dropping
 mod FallenMerges
 mod FirstMerges
@@ -11,6 +12,7 @@ mod FirstNodes
 mod FirstPlaces
 mod KeptCrash
 mod KeptLives
+mod KeptPromotion
 mod MetLives
 mod MetOnce
 mod NodeDirs

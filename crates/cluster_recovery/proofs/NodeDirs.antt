@@ -1,7 +1,7 @@
 -- The directory of a node, as callers see the cluster.
-use Rattle.std.proofs.Common.{◌≡◌, ℕ, false, Option, sym, subst}
+use Rattle.std.proofs.Common.{◌≡◌, ℕ, false, List, Option, sym, subst}
 use Rattle.std.specs.Prelude.{IsSomeAnd}
-use Rattle.disk_model.specs.Disk.{Cells, reads_of}
+use Rattle.disk_model.specs.Disk.{Name, Cells, reads_of}
 use Rattle.searcher_switch.proofs.Standing.{stands_along}
 use Rattle.history_rules.specs.Nodes.{IsNode, is_running}
 use Rattle.history_rules.specs.Points.{documents_at}
@@ -16,9 +16,9 @@ use Rattle.cluster_state.proofs.Frames.{place_shows}
 use Rattle.cluster_recovery.proofs.Reopening.{down_dir}
 
 -- where the node is down, a reopening may find the version that its directory shows
-pub down_finds : {D : Type 0} (cells : D → Cells) (r : Run) (n : ℕ) (dir : D) → IsNode r.nodes n → IsNodeDir cells r n dir → is_running n (printed r.log) ≡ false
+pub down_finds : {D : Type 0} (cells : D → Cells) (names : D → List Name) (r : Run) (n : ℕ) (dir : D) → IsNode r.nodes n → IsNodeDir cells names r n dir → is_running n (printed r.log) ≡ false
     → FindsVersion (printed r.log) n (reads_of (cells dir))
-down_finds {D} cells r n dir node d down = record {
+down_finds {D} cells names r n dir node d down = record {
   number = shows.number;
   infos = shows.infos;
   finds = shows.finds;

@@ -1,6 +1,8 @@
 -- What callers are told beside the log of a cluster of which a node crashed.
-use Rattle.std.specs.Prelude.{ℕ, ◌≡◌, Bool, true, false, []}
-use Rattle.cluster_state.specs.Run.{Run, no_files, calls_at, files_at, merged_at, KeepsRest}
+use Rattle.std.specs.Prelude.{ℕ, ◌≡◌, ◌==◌, Bool, true, false, []}
+use Rattle.history_rules.specs.Nodes.{primary_of, is_at}
+use Rattle.history_book.specs.Log.{printed}
+use Rattle.cluster_state.specs.Run.{Run, no_files, calls_at, files_at, merged_at, names_at, KeepsRest}
 use Rattle.cluster_state.specs.Keeping.{TellsSameOfOthers, KeepsButNode}
 use Rattle.cluster_state.specs.LifeCalls.{crashed_tasks}
 
@@ -20,8 +22,12 @@ pub record PrimaryFell (n : ℕ) (old new : Run) : Type 0 where
   pub calls : TellsSameOfOthers calls_at n old new
   pub files : TellsSameOfOthers files_at n old new
 
+-- the files of all nodes but the primary and this one have the names that they had
+abbrev pub KeepsOtherNames : ℕ → Run → Run → Type 0
+KeepsOtherNames n old new = (m : ℕ) → is_at (primary_of (printed old.log)) m ≡ false → (n == m) ≡ false → names_at m new ≡ names_at m old
+
 -- what callers are told beside the log, behind a line that crashes a node, by whether the node runs and whether it is the primary
 abbrev pub CrashTells : (up primary : Bool) → ℕ → Run → Run → Type 0
 CrashTells false primary n old new = KeepsRest old new
-CrashTells true false n old new = KeepsButNode n old new × TellsNothingOf n new
+CrashTells true false n old new = KeepsButNode n old new × TellsNothingOf n new × KeepsOtherNames n old new
 CrashTells true true n old new = PrimaryFell n old new × TellsNothingOf n new

@@ -1,7 +1,9 @@
--- What the nodes of a cluster lose where the merges in flight end: their copies of merged segments.
-use Rattle.std.specs.Prelude.{ℕ, ◌≡◌, ◌==◌, true, Bool, List, [], Option, Some, None, IsSomeAnd, length}
+-- What ends at the other nodes where one crashes, and with the primary of the merges: their copies of merged segments at all nodes.
+use Rattle.std.specs.Prelude.{ℕ, ◌≡◌, ◌==◌, true, false, Bool, List, [], Option, Some, None, IsSomeAnd, length}
 use Rattle.std.specs.List.{list_any}
+use Rattle.nrt_base.specs.declared.numbers.NodeNo.{NodeNo}
 use Rattle.disk_model.specs.Disk.{Cells}
+use Rattle.history_rules.specs.Nodes.{is_at}
 use Rattle.searcher_switch.specs.Appearing.{NoneAppears}
 use Rattle.replica_node.specs.declared.parts.ReplicaParts.{ReplicaParts}
 use Rattle.replica_node.specs.Merges.{copy_at}
@@ -14,6 +16,7 @@ use Rattle.merge_tasks.specs.Board.{Board, is_sent_to}
 use Rattle.cluster_nodes.specs.declared.nodes.Node.{Node}
 use Rattle.cluster_nodes.specs.declared.nodes.Node.TheVariants.{Replica}
 use Rattle.cluster_nodes.specs.declared.nodes.NodePlace.{NodePlace}
+use Rattle.cluster_nodes.specs.Ends.{EndsWith}
 use Rattle.cluster_nodes.specs.Places.{place_of}
 use Rattle.cluster_state.specs.Merging.{RunsNoOther}
 
@@ -67,3 +70,13 @@ module _ {D : Type 0} where
     pub rows : now.rows ≡ []
     pub posted : now.posted ≡ []
     pub counts : now.counts ≡ board.counts
+
+  -- All that ends where a node crashes, and then its disk does. With the primary the jobs of all replicas stop; then the copies of merged segments end
+  -- at all nodes, no merge is in flight any more, and no task is posted. With a replica the primary takes back the copy state of its job. The
+  -- node itself is as before.
+  pub record EndsAll (cells : D → Cells) (primary : Option NodeNo) (n : ℕ) (board now : Board) (old new : List (Option (NodePlace D))) : Type 0 where
+    pub mid : List (Option (NodePlace D))
+    pub jobs : EndsWith cells primary n old mid
+    pub falls : is_at primary n ≡ true → Falls cells board now mid new
+    pub stays : is_at primary n ≡ false → (now ≡ board) × (new ≡ mid)
+    pub here : place_of new n ≡ place_of old n

@@ -3,3 +3,4 @@ pub mod Crashes
 pub mod Falls
 pub mod Planning
 pub mod PromoteCalls
+pub mod Promotions

@@ -15,7 +15,7 @@ use nrt_base::NodeNo;
 pub fn into_dir<D: FaultDir + Drop>(state: ClusterState<D>, n: NodeNo) -> D
     requires running { state.ended ≡ false }
     requires node { IsNode state.nodes n.0 }
-    ensures is { IsNodeDir D.cells state n.0 result }
+    ensures is { IsNodeDir D.cells D.names state n.0 result }
     ensures down { is_running n.0 (printed state.log) ≡ false
         → FindsVersion (printed state.log) n.0 (reads_of (D.cells result)) }
 {

@@ -1,17 +1,19 @@
-//! The merges that end where the primary crashes.
+//! What ends where a node crashes: the jobs and the merges of the primary, or the copy state of a replica's job.
 
-ghost use Rattle.std.specs.Prelude.{ℕ, ◌≡◌, ◌==◌, true, false, None, length};
-ghost use Rattle.history_rules.specs.Nodes.{is_at};
+ghost use Rattle.std.specs.Prelude.{ℕ, ◌≡◌, ◌==◌, true, false, None, length, OnOk};
 ghost use Rattle.replica_node.specs.Merges.{copy_at};
+ghost use Rattle.cluster_nodes.specs.Ends.{CanEnd};
 ghost use Rattle.cluster_nodes.specs.Places.{place_of, IsSlot};
 ghost use Rattle.merge_tasks.specs.Board.{is_sent_in};
-ghost use Rattle.cluster_recovery.specs.Falls.{LosesCopies, EndsSent, EndsSpread, EndsCopies, NodeLoses, PlaceLoses, AllLose, Falls};
+ghost use Rattle.cluster_recovery.specs.Falls.{LosesCopies, EndsSent, EndsSpread, EndsCopies, NodeLoses, PlaceLoses, AllLose, EndsAll};
 
+use cluster_nodes::{stop_jobs, take_back};
 use cluster_state::{Node, NodePlace, Replica};
 use disk_model::Dir;
 use merge_tasks::{OpenMerge, Sent, Spread, Tasks};
 use node_merges::drop_copy;
-use nrt_base::NodeNo;
+use nrt_base::{NoMemory, NodeNo};
+use std::alloc::Global;
 
 // Ends a copy that was sent to this replica, where it runs.
 fn drop_one<D: Dir + Drop>(replica: &mut Replica<D>, n: usize, sent: &Sent)
@@ -101,21 +103,27 @@ fn drop_all<D: Dir + Drop>(places: &mut Vec<Option<NodePlace<D>>>, rows: &[OpenM
     }
 }
 
-/// Where the primary crashed, no merge is in flight any more, no task is posted, and no copy of a merge runs. Takes no memory.
-pub fn end_merges<D: Dir + Drop>(
+/// Ends all that ends where a node crashes, before its disk does, by the running primary. With the primary the jobs of all replicas stop, the
+/// copies of merged segments end at all nodes, and the merges in flight and the tasks that are posted are gone. With a replica the primary takes back
+/// the copy state of its job. A publish or a commit in flight at the node itself goes with it. It fails when out of memory.
+pub fn end_all<D: Dir + Drop>(
+    alloc: Global,
     places: &mut Vec<Option<NodePlace<D>>>,
     tasks: &mut Tasks,
     primary: Option<NodeNo>,
     n: NodeNo,
-)
-    ensures falls { is_at primary n.0 ≡ true
-        → Falls D.cells tasks.old tasks.new places.old.items places.new.items }
-    ensures stays { is_at primary n.0 ≡ false → (tasks.new ≡ tasks.old)
-        × (places.new.items ≡ places.old.items) }
+) -> Result<(), NoMemory>
+    requires slot { IsSlot places.old.items n.0 }
+    requires can { CanEnd primary n.0 places.old.items }
+    ensures { OnOk result (EndsAll D.cells primary n.0 tasks.old tasks.new
+        places.old.items places.new.items) }
 {
-    let Some(p) = primary else { return };
-    if p.0 == n.0 {
-        drop_all(places, tasks.rows());
-        tasks.clear();
+    let Some(p) = primary else { return Ok(()) };
+    if p.0 != n.0 {
+        return take_back(alloc, places, p, n);
     }
+    stop_jobs(places);
+    drop_all(places, tasks.rows());
+    tasks.clear();
+    Ok(())
 }

@@ -94,6 +94,7 @@ fn lose_commit<D: FaultDir + Drop>(
         == crashes n.0 (before_start at (printed state.old.log))) ≡ false }
     ensures ok { OnOk result (LineRefused at Cause.Lost state.old state.new) }
     ensures plans { OnOk result (state.new.rest.plans ≡ state.old.rest.plans) }
+    ensures names { OnOk result (state.new.rest.names ≡ state.old.rest.names) }
     ensures rest { OnOk result (KeepsRest state.old state.new) }
     ensures err { OnErr result (IsEnded state.old state.new) }
 {

@@ -4,7 +4,7 @@ ghost use Rattle.std.specs.Prelude.{ℕ, ◌≡◌, ◌==◌, ◌∷◌, [], fal
 ghost use Rattle.history_rules.specs.Nodes.{IsNode, is_running, is_at, primary_of};
 ghost use Rattle.history_rules.specs.Lines.{entries_of_line};
 ghost use Rattle.history_book.specs.Log.{printed, shown};
-ghost use Rattle.cluster_state.specs.Run.{files_at, plans_at, IsNow, IsEnded};
+ghost use Rattle.cluster_state.specs.Run.{files_at, names_at, plans_at, IsNow, IsEnded};
 ghost use Rattle.cluster_state.specs.Keeping.{TellsSameOfOthers, KeepsButNode};
 ghost use Rattle.cluster_state.specs.GivesUp.{met_log};
 ghost use Rattle.cluster_recovery.specs.Crashes.{CrashTells};
@@ -34,7 +34,7 @@ pub fn crash<D: FaultDir + Drop>(
     ensures plans { OnOk result (plans_at n.0 state.new
         ≡ crashed_plans (is_running n.0 (printed state.old.log)) (plans_at n.0 state.old)) }
     ensures dir { OnOk result (CrashesDirBy (is_running n.0 (printed state.old.log))
-        D.cells D.leaves n.0 pick state.old state.new) }
+        D.cells D.names D.leaves n.0 pick state.old state.new) }
     ensures stays { OnOk result ((m : ℕ) → (n.0 == m) ≡ false
         → files_at m state.new ≡ files_at m state.old) }
     ensures rest { OnOk result (CrashTells (is_running n.0 (printed state.old.log))
@@ -62,6 +62,7 @@ pub fn reopen<D: FaultDir + Drop>(
     ensures ok { OnOk result (ReopensNode at n state.old state.new) }
     ensures rest { OnOk result (KeepsButNode n.0 state.old state.new) }
     ensures disks { OnOk result (TellsSameOfOthers plans_at n.0 state.old state.new) }
+    ensures names { OnOk result (TellsSameOfOthers names_at n.0 state.old state.new) }
     ensures err { OnErr result (IsEnded state.old state.new) }
 {
     if state.book().runs(n) {

@@ -9,7 +9,7 @@ ghost use Rattle.history_book.specs.Log.{printed, shown};
 ghost use Rattle.history_book.specs.Turns.{AreInTurn};
 ghost use Rattle.cluster_state.specs.Met.{ArePlanned, met_in, with_met};
 ghost use Rattle.cluster_state.specs.GivesUp.{met_log};
-ghost use Rattle.cluster_state.specs.Run.{files_at, plans_at, IsNow, IsEnded};
+ghost use Rattle.cluster_state.specs.Run.{files_at, names_at, plans_at, IsNow, IsEnded};
 ghost use Rattle.cluster_state.specs.Keeping.{TellsSameOfOthers, KeepsButNode};
 ghost use Rattle.cluster_state.specs.Lives.{Reopens};
 ghost use Rattle.cluster_state.specs.LifeCalls.{crashed_tasks, CrashesDir};
@@ -17,7 +17,7 @@ ghost use Rattle.cluster_recovery.specs.Crashes.{CrashTells};
 
 use crate::commits::note_own;
 use crate::down::{has_failed, is_planned_at, note_down};
-use crate::falls::end_merges;
+use crate::falls::end_all;
 use cluster_nodes::{NodePlace, Went, crash_in, files_last, reopen_in};
 use cluster_state::{ClusterState, are_planned, met_before, node_kinds, show_met};
 use disk_model::FaultDir;
@@ -76,7 +76,7 @@ pub fn crash_node<D: FaultDir + Drop>(
     ensures ok { OnOk result (IsNow cluster.old cluster.new
         (shown at (Event.Crashed n) ∷ met_log at cluster.old cluster.new)) }
     ensures plans { OnOk result (plans_at n.0 cluster.new ≡ ended (plans_at n.0 cluster.old)) }
-    ensures dir { OnOk result (CrashesDir D.cells D.leaves n.0 pick cluster.old cluster.new) }
+    ensures dir { OnOk result (CrashesDir D.cells D.names D.leaves n.0 pick cluster.old cluster.new) }
     ensures stays { OnOk result ((m : ℕ) → (n.0 == m) ≡ false
         → files_at m cluster.new ≡ files_at m cluster.old) }
     ensures rest { OnOk result (CrashTells true (is_at (primary_of (printed cluster.old.log)) n.0)
@@ -91,8 +91,8 @@ pub fn crash_node<D: FaultDir + Drop>(
     files_last();
     cluster.ended = true;
     let before = met_before(alloc, &mut cluster.ledger, &cluster.places, 1)?;
-    crash_in(alloc, &mut cluster.places, primary, n, pick)?;
-    end_merges(&mut cluster.places, &mut cluster.tasks, primary, n);
+    end_all(alloc, &mut cluster.places, &mut cluster.tasks, primary, n)?;
+    crash_in(alloc, &mut cluster.places, n, pick)?;
     if !are_planned(cluster.ledger.book(), before.as_slice(), &cluster.places) {
         return Err(AllocError);
     }
@@ -124,6 +124,7 @@ pub fn reopen_node<D: FaultDir + Drop>(
     ensures ok { OnOk result (Reopens at n cluster.old cluster.new) }
     ensures rest { OnOk result (KeepsButNode n.0 cluster.old cluster.new) }
     ensures disks { OnOk result (TellsSameOfOthers plans_at n.0 cluster.old cluster.new) }
+    ensures names { OnOk result (TellsSameOfOthers names_at n.0 cluster.old cluster.new) }
     ensures err { OnErr result (IsEnded cluster.old cluster.new) }
 {
     let book = cluster.ledger.book();

@@ -11,6 +11,7 @@ ghost use Rattle.history_book.specs.Turns.{AreInTurn};
 ghost use Rattle.cluster_state.specs.Met.{ArePlanned, met_in, with_met};
 ghost use Rattle.cluster_state.specs.GivesUp.{met_log};
 ghost use Rattle.cluster_state.specs.Run.{IsNow, IsEnded};
+ghost use Rattle.cluster_recovery.specs.Promotions.{PromotesRest};
 
 use cluster_nodes::{NodePlace, promote_in};
 use cluster_state::{ClusterState, are_planned, files_last, met_before, show_met};
@@ -76,6 +77,7 @@ pub fn promote_node<D: FaultDir + Drop>(
     ensures ok { OnOk result (IsNow cluster.old cluster.new
         (shown at (Event.Promoted n (record { 0 = generation_of (printed cluster.old.log) + 1 }) forced
         (record { 0 = forced.0 + 1 })) ∷ met_log at cluster.old cluster.new)) }
+    ensures rest { OnOk result (PromotesRest D.cells n.0 cluster.old cluster.new) }
     ensures tasks { OnOk result (cluster.new.rest.tasks ≡ cluster.old.rest.tasks) }
     ensures err { OnErr result (IsEnded cluster.old cluster.new) }
 {

@@ -4,10 +4,12 @@ ghost use Rattle.std.specs.Prelude.{◌≡◌, ◌∷◌, [], false, OnOk, OnErr
 ghost use Rattle.history_rules.specs.Nodes.{IsNode};
 ghost use Rattle.history_rules.specs.Lines.{entries_of_line};
 ghost use Rattle.history_book.specs.Log.{printed, shown};
-ghost use Rattle.script_serving.specs.Refusals.{forced_version as forced_version_lem};
+ghost use Rattle.script_serving.specs.declared.script.LineCommand.TheVariants.{Promote};
+ghost use Rattle.script_serving.specs.Refusals.{forced_version as forced_version_lem, refusal};
 ghost use Rattle.cluster_state.specs.Run.{IsNow, IsEnded};
 ghost use Rattle.cluster_state.specs.GivesUp.{met_log};
 ghost use Rattle.cluster_recovery.specs.PromoteCalls.{promote_event, ForcesAbove};
+ghost use Rattle.cluster_recovery.specs.Promotions.{PromoteTells};
 
 use crate::promoting::promote_node;
 use cluster_state::{ClusterState, refuse};
@@ -47,7 +49,7 @@ fn forced_above(book: &Book, n: NodeNo, force: Force) -> Result<Version, Cause>
     }
 }
 
-/// Promotes a node.
+/// Promotes a node, or refuses the line, which then leaves all as it was.
 pub fn promote<D: FaultDir + Drop>(
     state: &mut ClusterState<D>,
     alloc: Global,
@@ -61,6 +63,8 @@ pub fn promote<D: FaultDir + Drop>(
     ensures ok { OnOk result (IsNow state.old state.new
         (shown at (promote_event at.lane.0 n force (printed state.old.log))
         ∷ met_log at state.old state.new)) }
+    ensures rest { OnOk result (PromoteTells D.cells
+        (refusal (Promote n force) at.lane.0 (printed state.old.log)) n.0 state.old state.new) }
     ensures tasks { OnOk result (state.new.rest.tasks ≡ state.old.rest.tasks) }
     ensures err { OnErr result (IsEnded state.old state.new) }
 {

@@ -34,7 +34,7 @@ use Rattle.cluster_state.specs.Met.{failures_by_plan, fault_by, with_met}
 use Rattle.cluster_state.specs.GivesUp.{met_log}
 use Rattle.cluster_state.proofs.Faulted.{met_has}
 use Rattle.cluster_state.specs.Calls.{by_refusal}
-use Rattle.cluster_recovery.specs.PromoteCalls.{promote_event}
+use Rattle.cluster_core.specs.Given.{promote_event}
 use Rattle.cluster_core.specs.Doing.{IsReplied}
 use Rattle.cluster_core.proofs.MetDoes.{Meets, met_meets, met_forced, adds_then, behind_goes, first_behind}
 use Rattle.cluster_site.specs.Sites.{SiteRun, SiteStands, AreLogged, IsInStep, DoesAtSite, records_of, is_logged}

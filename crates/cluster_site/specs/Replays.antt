@@ -17,7 +17,7 @@ use Rattle.trans_log.specs.declared.record.LogOp.{LogOp}
 use Rattle.lane_threads.specs.Owes.{GoesByLine}
 use Rattle.cluster_state.specs.Run.{Run}
 use Rattle.cluster_state.specs.GivesUp.{met_log}
-use Rattle.cluster_recovery.specs.PromoteCalls.{promote_event}
+use Rattle.cluster_core.specs.Given.{promote_event}
 use Rattle.cluster_site.specs.Sites.{operations_in}
 
 -- the version of the point that an event promotes a node to

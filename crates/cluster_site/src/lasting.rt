@@ -19,7 +19,7 @@ impl<D: FaultDir + Drop> Site<D> {
     ghost use Rattle.cluster_core.specs.Doing.{IsReplied, IsRepliedAtDone, IsBegunAtWork};
     ghost use Rattle.cluster_site.specs.Sites.{DoesAtSite};
     ghost use Rattle.cluster_state.specs.LifeCalls.{CommitStarts, CommitSteps, crash_event, crashed_plans, CrashesDirBy, ReopensNode};
-    ghost use Rattle.cluster_recovery.specs.Crashes.{CrashTells};
+    ghost use Rattle.cluster_core.specs.Given.{CrashTells};
 
     /// Starts a commit of the point that a node searches. A commit that was stopped there is made first. Busy comes exactly where the node
     /// runs and another line's commit is in flight there.

@@ -21,9 +21,7 @@ impl<D: FaultDir + Drop> Site<D> {
     ghost use Rattle.merge_tasks.specs.Board.{open_merge, is_unwritten};
     ghost use Rattle.cluster_state.specs.DueFaults.{ArrivesBy};
     ghost use Rattle.cluster_state.specs.Run.{IsEnded};
-    ghost use Rattle.cluster_merges.specs.MergesKept.{KeepsBuilt, KeepsButSizes, KeepsButTasks, KeepsButCut, KeepsCopyTurn, KeepsButCopies};
-    ghost use Rattle.cluster_merges.specs.MergePaths.{IsMergedOut, EndsBuild, TakesTask};
-    ghost use Rattle.cluster_merges.specs.TaskCalls.{MergeLine, PrecopyTurns, PartTurns, CutTurns, DrainTurns};
+    ghost use Rattle.cluster_core.specs.Given.{KeepsBuilt, KeepsButSizes, KeepsButTasks, KeepsButCut, KeepsCopyTurn, KeepsButCopies, IsMergedOut, EndsBuild, TakesTask, MergeLine, PrecopyTurns, PartTurns, CutTurns, DrainTurns};
     ghost use Rattle.cluster_core.specs.Doing.{IsReplied, IsRepliedAtDone};
     ghost use Rattle.cluster_site.specs.Sites.{DoesAtSite, DoesTaskAtSite};
 

@@ -13,7 +13,7 @@ impl<D: FaultDir + Drop> Site<D> {
     ghost use Rattle.script_serving.specs.Form.{is_plan};
     ghost use Rattle.script_serving.specs.declared.script.LineCommand.TheVariants.{Fault};
     ghost use Rattle.cluster_state.specs.Run.{IsEnded};
-    ghost use Rattle.cluster_recovery.specs.Planning.{PlansFault};
+    ghost use Rattle.cluster_core.specs.Given.{PlansFault};
     ghost use Rattle.cluster_core.specs.Doing.{IsReplied};
     ghost use Rattle.cluster_site.specs.Sites.{DoesAtSite};
 

@@ -14,17 +14,17 @@ use Rattle.index_check.specs.Images.{NamedFile, IsImageOf}
 use Rattle.index_check.specs.Directory.{after_puts, directory_with}
 use Rattle.dir_image.specs.ImagesNow.{AreReadAs, IsImageNow}
 
-ascends : (names : List Name) → IsStrictlySortedBy (slice_cmp nat_cmp) names → is_ascending names ≡ true
+names_ascend : (files : List NamedFile) → IsStrictlySortedBy (slice_cmp nat_cmp) (map (λ f. f.0) files) → is_ascending (map (λ f. f.0) files) ≡ true
 unfolding IsStrictlySortedBy
-ascends [] sorted = refl
-ascends (a ∷ []) sorted = refl
-ascends (a ∷ b ∷ names) sorted = ap (λ (x : _). is_less x && is_ascending (b ∷ names)) sorted.0.0 ∙ ascends (b ∷ names) sorted.1
+names_ascend [] sorted = refl
+names_ascend (f ∷ []) sorted = refl
+names_ascend (f ∷ g ∷ files) sorted = ap (λ (x : _). is_less x && is_ascending (map (λ h. h.0) (g ∷ files))) sorted.0.0 ∙ names_ascend (g ∷ files) sorted.1
 
 -- the names of files that were read ascend
 pub files_ascend : (cells : Cells) (reads : Image) (names shown : List Name) (files given : List NamedFile) → shown ≡ names → given ≡ files → AreReadAs reads shown files → AreNamesOf cells names
     → is_ascending (map (λ f. f.0) given) ≡ true
 files_ascend cells reads names shown files given same whole read listed =
-    ap (λ (fs : List NamedFile). is_ascending (map (λ f. f.0) fs)) whole ∙ (ap is_ascending (read.called ∙ same) ∙ ascends names listed.ascending)
+    ap (λ (fs : List NamedFile). is_ascending (map (λ f. f.0) fs)) whole ∙ names_ascend files (subst (IsStrictlySortedBy (slice_cmp nat_cmp)) (sym (read.called ∙ same)) listed.ascending)
 
 abbrev names_in : List NamedFile → List Name
 names_in files = map (λ f. f.0) files

@@ -126,11 +126,11 @@ impl BestHits {
         ensures bar { OnOk result (IsBar seg.now.docs places.now bar.new self.new.hits) }
     {
         self.total += 1;
-        if are_beyond(self.hits.as_slice(), rank) {
-            return Ok(());
-        }
         let at = places[row as usize];
         if bar.refuses(rank, at) {
+            return Ok(());
+        }
+        if are_beyond(self.hits.as_slice(), rank) {
             return Ok(());
         }
         let key = seg.key(row);

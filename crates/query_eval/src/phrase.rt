@@ -1,6 +1,6 @@
 //! The words of a phrase, moved together and asked whether they stand one behind the other.
 
-ghost use Rattle.std.specs.Prelude.{ℕ, ◌≡◌, ◌+◌, ◌<◌, ◌≤◌, ◌^◌, length, map, IfSome, IfNone};
+ghost use Rattle.std.specs.Prelude.{ℕ, ◌≡◌, ◌+◌, ◌<◌, ◌≤◌, ◌^◌, false, length, map, IsTrue, IfSome, IfNone};
 ghost use Rattle.std.specs.List.{All};
 ghost use Rattle.postings_plain.specs.Postings.{row_of};
 ghost use Rattle.postings_plain.specs.Rows.{from_row, first_row, first_positions, IsLeastFrom};
@@ -55,17 +55,19 @@ impl<'a> Places<'a> {
     }
 }
 
-/// A word of a phrase, seen as its hits that were not passed. Its places in the row where it stands are read forward.
+/// A word of a phrase, seen as its hits that were not passed. Its places in the row where it stands are read forward, and
+/// only once they are asked for.
 #[derive(Drop)]
 pub struct PhraseWord<'a> {
     hits: Postings<'a>,
     places: Places<'a>,
-    // The reader has passed no place from this one on.
+    // Whether the reader is of the row where the word stands. It has then passed no place from the least one on.
+    is_here: bool,
     least: u64,
 }
 
 impl<'a> Model for PhraseWord<'a> {
-    ghost use Rattle.std.specs.Prelude.{List};
+    ghost use Rattle.std.specs.Prelude.{List, IsTrue};
     ghost use Rattle.postings_plain.specs.Postings.{Hit};
     ghost use Rattle.postings_plain.specs.Rows.{first_positions};
     ghost use Rattle.query_eval.specs.Places.{AreSameFrom};
@@ -74,7 +76,7 @@ impl<'a> Model for PhraseWord<'a> {
 
     ghost view = { λ w. w.hits };
 
-    ghost invariant = { λ w. AreSameFrom w.least w.places (first_positions w.hits) };
+    ghost invariant = { λ w. IsTrue w.is_here → AreSameFrom w.least w.places (first_positions w.hits) };
 }
 
 impl<'a> PhraseWord<'a> {
@@ -85,6 +87,7 @@ impl<'a> PhraseWord<'a> {
         PhraseWord {
             hits,
             places,
+            is_here: true,
             least: 0,
         }
     }
@@ -96,10 +99,8 @@ impl<'a> PhraseWord<'a> {
         ensures found { IfSome result (IsLeastFrom row self.old) }
         ensures none { IfNone result (All (λ h. row_of h < row) self.old) }
     {
-        let found = self.hits.next_from(row);
-        self.places = Places::of(&self.hits);
-        self.least = 0;
-        found
+        self.is_here = false;
+        self.hits.next_from(row)
     }
 
     // The places in the row where the word stands.
@@ -116,12 +117,21 @@ impl<'a> PhraseWord<'a> {
         ensures answer { result ≡ has_place (first_positions self.old) place }
         ensures same { self.new ≡ self.old }
     {
-        if place < self.least {
+        if is_past(self.is_here, self.least, place) {
             self.places = Places::of(&self.hits);
+            self.is_here = true;
         }
         self.least = place;
         self.places.has(place)
     }
+}
+
+// Whether a reader is to begin again for this place: it is of another row, or may have passed the place.
+fn is_past(is_here: bool, least: u64, place: u64) -> bool
+    ensures here { result ≡ false → IsTrue is_here }
+    ensures least { result ≡ false → least ≤ place }
+{
+    !is_here || place < least
 }
 
 // Whether the words have this place and those that follow it, one each, in the row where they stand.

@@ -111,7 +111,7 @@ returns-in-Some-clause-ok g c =
 
 pub returns-in-Some-clause-rest : goal.returns-in-Some-clause-rest
 returns-in-Some-clause-rest g c =
-    commit_kept g.D.FaultDir.planned c.args.cluster.now _ _ _ _ _ _ c.cluster.inside.places.items c.cluster.inside.places.items (ap (λ (x : Run). x.rest) c.cluster.view_is) refl (c.show.ensures.cut ∙ c.in_ok-reserve.ensures.cut) g.D.Dir.cells c.args.n.0
+    commit_kept g.D.FaultDir.planned g.D.FaultDir.names c.args.cluster.now _ _ _ _ _ _ c.cluster.inside.places.items c.cluster.inside.places.items (ap (λ (x : Run). x.rest) c.cluster.view_is) refl (c.show.ensures.cut ∙ c.in_ok-reserve.ensures.cut) g.D.Dir.cells c.args.n.0
     (none_commits g.D.Dir.cells g.D.FaultDir.planned c.args.n.0 c.cluster.inside.places.items) c.note_own.ensures.others
 
 pub returns-in_ok-begin_commit_in-in-None-clause-ok : goal.returns-in_ok-begin_commit_in-in-None-clause-ok
@@ -130,5 +130,5 @@ returns-in_ok-begin_commit_in-in-None-clause-ok g c =
 
 pub returns-in_ok-begin_commit_in-in-None-clause-rest : goal.returns-in_ok-begin_commit_in-in-None-clause-rest
 returns-in_ok-begin_commit_in-in-None-clause-rest g c =
-    commit_kept g.D.FaultDir.planned c.args.cluster.now _ _ _ _ _ _ c.cluster.inside.places.items c.begin_commit_in.new.places.items (ap (λ (x : Run). x.rest) c.cluster.view_is) refl (c.show-in-None.ensures.cut ∙ c.in_ok-reserve.ensures.cut) g.D.Dir.cells c.args.n.0
+    commit_kept g.D.FaultDir.planned g.D.FaultDir.names c.args.cluster.now _ _ _ _ _ _ c.cluster.inside.places.items c.begin_commit_in.new.places.items (ap (λ (x : Run). x.rest) c.cluster.view_is) refl (c.show-in-None.ensures.cut ∙ c.in_ok-reserve.ensures.cut) g.D.Dir.cells c.args.n.0
     (one_commits g.D.Dir.cells g.D.FaultDir.planned HasBegun c.args.n.0 c.cluster.inside.places.items c.begin_commit_in.new.places.items c.in_ok-begin_commit_in-in-None.ensures) (owns_itself c.args.n.0 c.cluster.inside.carries)

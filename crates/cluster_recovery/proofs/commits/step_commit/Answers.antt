@@ -273,7 +273,7 @@ returns-in-Goes-clause-ok g c = (
 
 pub returns-in-Goes-clause-rest : goal.returns-in-Goes-clause-rest
 returns-in-Goes-clause-rest g c =
-    commit_kept g.D.FaultDir.planned c.args.cluster.now _ _ _ _ _ _ c.cluster.inside.places.items c.call_for.new.places.items (ap (λ (x : Run). x.rest) c.cluster.view_is) refl (c.show_met.ensures.cut ∙ c.in_ok-before.ensures.cut) g.D.Dir.cells c.args.n.0
+    commit_kept g.D.FaultDir.planned g.D.FaultDir.names c.args.cluster.now _ _ _ _ _ _ c.cluster.inside.places.items c.call_for.new.places.items (ap (λ (x : Run). x.rest) c.cluster.view_is) refl (c.show_met.ensures.cut ∙ c.in_ok-before.ensures.cut) g.D.Dir.cells c.args.n.0
     (one_commits g.D.Dir.cells g.D.FaultDir.planned (StepsBook false) c.args.n.0 c.cluster.inside.places.items c.call_for.new.places.items (subst (CallsFor g.D.Dir.cells c.args.n.0 c.has_own_at-carries.result c.is_stuck-stuck.result c.cluster.inside.places.items c.call_for.new.places.items) c.in-Goes.is c.in_ok-called.ensures)) (owns_itself c.args.n.0 c.cluster.inside.carries)
 
 pub returns-in-Carried-clause-ok : goal.returns-in-Carried-clause-ok
@@ -285,7 +285,7 @@ returns-in-Carried-clause-ok g c = (
 
 pub returns-in-Carried-clause-rest : goal.returns-in-Carried-clause-rest
 returns-in-Carried-clause-rest g c =
-    commit_kept g.D.FaultDir.planned c.args.cluster.now _ _ _ _ _ _ c.cluster.inside.places.items c.call_for.new.places.items (ap (λ (x : Run). x.rest) c.cluster.view_is) refl (c.show_met-in-Carried.ensures.cut ∙ c.in_ok-before.ensures.cut) g.D.Dir.cells c.args.n.0
+    commit_kept g.D.FaultDir.planned g.D.FaultDir.names c.args.cluster.now _ _ _ _ _ _ c.cluster.inside.places.items c.call_for.new.places.items (ap (λ (x : Run). x.rest) c.cluster.view_is) refl (c.show_met-in-Carried.ensures.cut ∙ c.in_ok-before.ensures.cut) g.D.Dir.cells c.args.n.0
     (carried_commits g.D.Dir.cells g.D.FaultDir.planned c.args.n.0 c.cluster.inside.places.items c.call_for.new.places.items (subst (CallsFor g.D.Dir.cells c.args.n.0 c.has_own_at-carries.result c.is_stuck-stuck.result c.cluster.inside.places.items c.call_for.new.places.items) c.in-Carried.is c.in_ok-called.ensures).0) c.note_own.ensures.others
 
 pub returns-in-Made-clause-ok : goal.returns-in-Made-clause-ok
@@ -300,7 +300,7 @@ returns-in-Made-clause-ok g c =
 
 pub returns-in-Made-clause-rest : goal.returns-in-Made-clause-rest
 returns-in-Made-clause-rest g c =
-    commit_kept g.D.FaultDir.planned c.args.cluster.now _ _ _ _ _ _ c.cluster.inside.places.items c.call_for.new.places.items (ap (λ (x : Run). x.rest) c.cluster.view_is) refl (c.note_met.ensures.cut ∙ c.in_ok-before.ensures.cut) g.D.Dir.cells c.args.n.0
+    commit_kept g.D.FaultDir.planned g.D.FaultDir.names c.args.cluster.now _ _ _ _ _ _ c.cluster.inside.places.items c.call_for.new.places.items (ap (λ (x : Run). x.rest) c.cluster.view_is) refl (c.note_met.ensures.cut ∙ c.in_ok-before.ensures.cut) g.D.Dir.cells c.args.n.0
     (one_commits g.D.Dir.cells g.D.FaultDir.planned (StepsBook true) c.args.n.0 c.cluster.inside.places.items c.call_for.new.places.items (subst (CallsFor g.D.Dir.cells c.args.n.0 c.has_own_at-carries.result c.is_stuck-stuck.result c.cluster.inside.places.items c.call_for.new.places.items) c.in-Made.is c.in_ok-called.ensures).0) (owns_itself c.args.n.0 c.cluster.inside.carries)
 
 pub returns-clause-ok : goal.returns-clause-ok
@@ -317,5 +317,5 @@ returns-clause-ok g c =
 
 pub returns-clause-rest : goal.returns-clause-rest
 returns-clause-rest g c =
-    commit_kept g.D.FaultDir.planned c.args.cluster.now _ _ _ _ _ _ c.cluster.inside.places.items c.call_for.new.places.items (ap (λ (x : Run). x.rest) c.cluster.view_is) refl (c.note_stopped.ensures.cut ∙ c.in_ok-before.ensures.cut) g.D.Dir.cells c.args.n.0
+    commit_kept g.D.FaultDir.planned g.D.FaultDir.names c.args.cluster.now _ _ _ _ _ _ c.cluster.inside.places.items c.call_for.new.places.items (ap (λ (x : Run). x.rest) c.cluster.view_is) refl (c.note_stopped.ensures.cut ∙ c.in_ok-before.ensures.cut) g.D.Dir.cells c.args.n.0
     (one_commits g.D.Dir.cells g.D.FaultDir.planned KeepsBook c.args.n.0 c.cluster.inside.places.items c.call_for.new.places.items (subst (CallsFor g.D.Dir.cells c.args.n.0 c.has_own_at-carries.result c.is_stuck-stuck.result c.cluster.inside.places.items c.call_for.new.places.items) c.in-Failed.is c.in_ok-called.ensures)) c.note_own-in-Failed.ensures.others

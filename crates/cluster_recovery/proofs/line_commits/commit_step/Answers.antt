@@ -16,7 +16,7 @@ returns-then-not-node_survives-clause-ok g c =
 
 pub returns-then-not-node_survives-clause-rest : goal.returns-then-not-node_survives-clause-rest
 returns-then-not-node_survives-clause-rest g c =
-    commit_same c.args.n.0 c.args.state.now c.lose_commit.new.state c.in_ok-lose_commit.ensures.rest c.in_ok-lose_commit.ensures.plans
+    commit_same c.args.n.0 c.args.state.now c.lose_commit.new.state c.in_ok-lose_commit.ensures.rest c.in_ok-lose_commit.ensures.plans c.in_ok-lose_commit.ensures.names
 
 pub returns-clause-ok : goal.returns-clause-ok
 returns-clause-ok g c =

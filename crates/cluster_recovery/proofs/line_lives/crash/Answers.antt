@@ -30,12 +30,12 @@ returns-clause-plans g c =
 
 pub returns-then-not-runs-clause-dir : goal.returns-then-not-runs-clause-dir
 returns-then-not-runs-clause-dir g c =
-    subst (λ (b : Bool). OnOk c.refuse.result (CrashesDirBy b g.D.Dir.cells g.D.FaultDir.leaves c.args.n.0 c.args.pick c.args.state.now c.refuse.new.state))
+    subst (λ (b : Bool). OnOk c.refuse.result (CrashesDirBy b g.D.Dir.cells g.D.FaultDir.names g.D.FaultDir.leaves c.args.n.0 c.args.pick c.args.state.now c.refuse.new.state))
     (sym (runs_told c.args.n.0 _ _ _ _ c.book.ensures.log c.runs.ensures c.if-not-runs.true)) (on_ok_weaker c.refuse.result (λ same. tt) c.refuse.ensures.plans)
 
 pub returns-clause-dir : goal.returns-clause-dir
 returns-clause-dir g c =
-    subst (λ (b : Bool). OnOk c.crash_node.result (CrashesDirBy b g.D.Dir.cells g.D.FaultDir.leaves c.args.n.0 c.args.pick c.args.state.now c.crash_node.new.cluster))
+    subst (λ (b : Bool). OnOk c.crash_node.result (CrashesDirBy b g.D.Dir.cells g.D.FaultDir.names g.D.FaultDir.leaves c.args.n.0 c.args.pick c.args.state.now c.crash_node.new.cluster))
     (sym (runs_told c.args.n.0 _ _ _ _ c.book.ensures.log c.runs.ensures c.if-not-runs.false)) c.crash_node.ensures.dir
 
 pub returns-then-not-runs-clause-tasks : goal.returns-then-not-runs-clause-tasks

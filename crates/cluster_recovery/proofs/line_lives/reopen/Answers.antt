@@ -1,6 +1,6 @@
 use Rattle.std.proofs.lemmas.Result.{on_ok_weaker}
 use Rattle.cluster_state.proofs.LifeRows.{reopened, unreopened, runs_told}
-use Rattle.cluster_recovery.proofs.KeptLives.{node_same, alike_plans}
+use Rattle.cluster_recovery.proofs.KeptLives.{node_same, alike_names, alike_plans}
 use Rattle.cluster_recovery.proofs.line_lives.reopen.Goals as goal
 
 pub returns-then-runs-clause-ok : goal.returns-then-runs-clause-ok
@@ -14,6 +14,10 @@ returns-then-runs-clause-rest g c =
 pub returns-then-runs-clause-disks : goal.returns-then-runs-clause-disks
 returns-then-runs-clause-disks g c =
     on_ok_weaker c.refuse.result (alike_plans c.args.n.0 c.args.state.now c.refuse.new.state) c.refuse.ensures.plans
+
+pub returns-then-runs-clause-names : goal.returns-then-runs-clause-names
+returns-then-runs-clause-names g c =
+    on_ok_weaker c.refuse.result (alike_names c.args.n.0 c.args.state.now c.refuse.new.state) c.refuse.ensures.names
 
 pub returns-clause-ok : goal.returns-clause-ok
 returns-clause-ok g c =

@@ -18,7 +18,7 @@ use Rattle.cluster_recovery.proofs.ReopenMerges.{reopened_stands}
 use Rattle.cluster_recovery.proofs.MetLives.{plans_was}
 use Rattle.cluster_recovery.proofs.MetOnce.{own_log, own_failed, none_at}
 use Rattle.cluster_recovery.proofs.StaysDown.{went_done, went_failed, slot_after, stays_path}
-use Rattle.cluster_recovery.proofs.KeptLives.{owns_itself, one_moves, node_kept, disks_kept, down_sizes}
+use Rattle.cluster_recovery.proofs.KeptLives.{owns_itself, one_moves, node_kept, disks_kept, names_left, down_sizes}
 use Rattle.cluster_nodes.specs.declared.nodes.Node.TheVariants.{Replica, Down}
 use Rattle.cluster_recovery.proofs.lives.reopen_node.Goals as goal
 
@@ -71,7 +71,7 @@ returns-else-has_failed-clause-ok g c =
 pub returns-else-has_failed-clause-rest : goal.returns-else-has_failed-clause-rest
 returns-else-has_failed-clause-rest g c =
     let b = went_done (λ v. ReopensIn g.D.Dir.cells c.args.n.0 v c.cluster.inside.places.items c.reopen_in.new.places.items) (StaysDownIn g.D.Dir.cells g.D.Dir.faults c.args.n.0 c.cluster.inside.places.items c.reopen_in.new.places.items) c.in_ok-went.went c.in-Done.v c.in-Done.is c.in_ok-went.ensures in
-    node_kept g.D.FaultDir.planned c.args.cluster.now _ _ _ _ _ _ c.cluster.inside.places.items c.reopen_in.new.places.items (ap (λ (x : Run). x.rest) c.cluster.view_is) refl (c.show.ensures.cut ∙ c.in_ok-reserve.ensures.cut) c.args.n.0
+    node_kept g.D.FaultDir.planned g.D.FaultDir.names c.args.cluster.now _ _ _ _ _ _ c.cluster.inside.places.items c.reopen_in.new.places.items (ap (λ (x : Run). x.rest) c.cluster.view_is) refl (c.show.ensures.cut ∙ c.in_ok-reserve.ensures.cut) c.args.n.0
     (one_moves c.args.n.0 b.place (record { node = Replica b.replica; held = b.place.held }) c.cluster.inside.places.items c.reopen_in.new.places.items b.there b.moves
     (sym (down_sizes g.D.Dir.cells c.cluster.inside.ledger.log c.cluster.inside.ledger.nodes c.args.n.0 c.cluster.inside.places.items (c.cluster.invariant (ap (λ (x : Run). x.ended) c.cluster.view_is ∙ c.requires.running)).0
     (asked_size (λ (k : ℕ). IsNode k c.args.n.0) c.cluster.view_is refl c.requires.node) (asked_of (λ (l : Log). is_running c.args.n.0 (printed l) ≡ false) c.cluster.view_is refl c.requires.down) b.place b.there))) (owns_itself c.args.n.0 c.cluster.inside.carries)
@@ -79,7 +79,12 @@ returns-else-has_failed-clause-rest g c =
 pub returns-else-has_failed-clause-disks : goal.returns-else-has_failed-clause-disks
 returns-else-has_failed-clause-disks g c =
     let b = went_done (λ v. ReopensIn g.D.Dir.cells c.args.n.0 v c.cluster.inside.places.items c.reopen_in.new.places.items) (StaysDownIn g.D.Dir.cells g.D.Dir.faults c.args.n.0 c.cluster.inside.places.items c.reopen_in.new.places.items) c.in_ok-went.went c.in-Done.v c.in-Done.is c.in_ok-went.ensures in
-    disks_kept g.D.FaultDir.planned c.args.cluster.now (record { ended = false; nodes = c.show.new.self.nodes; log = c.show.new.self.log; rest = _ }) _ _ _ _ _ c.cluster.inside.places.items c.reopen_in.new.places.items (ap (λ (x : Run). x.rest) c.cluster.view_is) refl (c.show.ensures.cut ∙ c.in_ok-reserve.ensures.cut) c.args.n.0 (record { node = Replica b.replica; held = b.place.held }) b.moves
+    disks_kept g.D.FaultDir.planned g.D.FaultDir.names c.args.cluster.now (record { ended = false; nodes = c.show.new.self.nodes; log = c.show.new.self.log; rest = _ }) _ _ _ _ _ c.cluster.inside.places.items c.reopen_in.new.places.items (ap (λ (x : Run). x.rest) c.cluster.view_is) refl (c.show.ensures.cut ∙ c.in_ok-reserve.ensures.cut) c.args.n.0 (record { node = Replica b.replica; held = b.place.held }) b.moves
+
+pub returns-else-has_failed-clause-names : goal.returns-else-has_failed-clause-names
+returns-else-has_failed-clause-names g c =
+    let b = went_done (λ v. ReopensIn g.D.Dir.cells c.args.n.0 v c.cluster.inside.places.items c.reopen_in.new.places.items) (StaysDownIn g.D.Dir.cells g.D.Dir.faults c.args.n.0 c.cluster.inside.places.items c.reopen_in.new.places.items) c.in_ok-went.went c.in-Done.v c.in-Done.is c.in_ok-went.ensures in
+    names_left g.D.FaultDir.planned g.D.FaultDir.names c.args.cluster.now (record { ended = false; nodes = c.show.new.self.nodes; log = c.show.new.self.log; rest = _ }) _ _ _ _ _ c.cluster.inside.places.items c.reopen_in.new.places.items (ap (λ (x : Run). x.rest) c.cluster.view_is) refl (c.show.ensures.cut ∙ c.in_ok-reserve.ensures.cut) c.args.n.0 (record { node = Replica b.replica; held = b.place.held }) b.moves
 
 pub is_planned_at-requires : goal.is_planned_at-requires
 is_planned_at-requires g c = asked_size (λ (k : ℕ). IsNode k c.args.n.0) c.cluster.view_is (c.book.ensures.nodes ∙ c.in_ok-reserve.ensures.nodes) c.requires.node
@@ -119,7 +124,7 @@ returns-else-not-is_planned_at-clause-ok g c =
 pub returns-else-not-is_planned_at-clause-rest : goal.returns-else-not-is_planned_at-clause-rest
 returns-else-not-is_planned_at-clause-rest g c =
     let b = went_failed (λ v. ReopensIn g.D.Dir.cells c.args.n.0 v c.cluster.inside.places.items c.reopen_in.new.places.items) (StaysDownIn g.D.Dir.cells g.D.Dir.faults c.args.n.0 c.cluster.inside.places.items c.reopen_in.new.places.items) c.in_ok-went.went c.in-Failed.is c.in_ok-went.ensures in
-    node_kept g.D.FaultDir.planned c.args.cluster.now _ _ _ _ _ _ c.cluster.inside.places.items c.reopen_in.new.places.items (ap (λ (x : Run). x.rest) c.cluster.view_is) refl (c.note_down.ensures.cut ∙ c.in_ok-reserve.ensures.cut) c.args.n.0
+    node_kept g.D.FaultDir.planned g.D.FaultDir.names c.args.cluster.now _ _ _ _ _ _ c.cluster.inside.places.items c.reopen_in.new.places.items (ap (λ (x : Run). x.rest) c.cluster.view_is) refl (c.note_down.ensures.cut ∙ c.in_ok-reserve.ensures.cut) c.args.n.0
     (one_moves c.args.n.0 b.place (record { node = Down b.dir; held = b.place.held }) c.cluster.inside.places.items c.reopen_in.new.places.items b.there b.moves
     (sym (down_sizes g.D.Dir.cells c.cluster.inside.ledger.log c.cluster.inside.ledger.nodes c.args.n.0 c.cluster.inside.places.items (c.cluster.invariant (ap (λ (x : Run). x.ended) c.cluster.view_is ∙ c.requires.running)).0
     (asked_size (λ (k : ℕ). IsNode k c.args.n.0) c.cluster.view_is refl c.requires.node) (asked_of (λ (l : Log). is_running c.args.n.0 (printed l) ≡ false) c.cluster.view_is refl c.requires.down) b.place b.there))) (owns_itself c.args.n.0 c.cluster.inside.carries)
@@ -127,7 +132,12 @@ returns-else-not-is_planned_at-clause-rest g c =
 pub returns-else-not-is_planned_at-clause-disks : goal.returns-else-not-is_planned_at-clause-disks
 returns-else-not-is_planned_at-clause-disks g c =
     let b = went_failed (λ v. ReopensIn g.D.Dir.cells c.args.n.0 v c.cluster.inside.places.items c.reopen_in.new.places.items) (StaysDownIn g.D.Dir.cells g.D.Dir.faults c.args.n.0 c.cluster.inside.places.items c.reopen_in.new.places.items) c.in_ok-went.went c.in-Failed.is c.in_ok-went.ensures in
-    disks_kept g.D.FaultDir.planned c.args.cluster.now (record { ended = false; nodes = c.note_down.new.ledger.nodes; log = c.note_down.new.ledger.log; rest = _ }) _ _ _ _ _ c.cluster.inside.places.items c.reopen_in.new.places.items (ap (λ (x : Run). x.rest) c.cluster.view_is) refl (c.note_down.ensures.cut ∙ c.in_ok-reserve.ensures.cut) c.args.n.0 (record { node = Down b.dir; held = b.place.held }) b.moves
+    disks_kept g.D.FaultDir.planned g.D.FaultDir.names c.args.cluster.now (record { ended = false; nodes = c.note_down.new.ledger.nodes; log = c.note_down.new.ledger.log; rest = _ }) _ _ _ _ _ c.cluster.inside.places.items c.reopen_in.new.places.items (ap (λ (x : Run). x.rest) c.cluster.view_is) refl (c.note_down.ensures.cut ∙ c.in_ok-reserve.ensures.cut) c.args.n.0 (record { node = Down b.dir; held = b.place.held }) b.moves
+
+pub returns-else-not-is_planned_at-clause-names : goal.returns-else-not-is_planned_at-clause-names
+returns-else-not-is_planned_at-clause-names g c =
+    let b = went_failed (λ v. ReopensIn g.D.Dir.cells c.args.n.0 v c.cluster.inside.places.items c.reopen_in.new.places.items) (StaysDownIn g.D.Dir.cells g.D.Dir.faults c.args.n.0 c.cluster.inside.places.items c.reopen_in.new.places.items) c.in_ok-went.went c.in-Failed.is c.in_ok-went.ensures in
+    names_left g.D.FaultDir.planned g.D.FaultDir.names c.args.cluster.now (record { ended = false; nodes = c.note_down.new.ledger.nodes; log = c.note_down.new.ledger.log; rest = _ }) _ _ _ _ _ c.cluster.inside.places.items c.reopen_in.new.places.items (ap (λ (x : Run). x.rest) c.cluster.view_is) refl (c.note_down.ensures.cut ∙ c.in_ok-reserve.ensures.cut) c.args.n.0 (record { node = Down b.dir; held = b.place.held }) b.moves
 
 pub invariant_of-cluster : goal.invariant_of-cluster
 invariant_of-cluster g c = λ ended. absurd (true≢false ended)

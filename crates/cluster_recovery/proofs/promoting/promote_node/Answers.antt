@@ -1,15 +1,22 @@
 use Rattle.std.proofs.Common.{◌≡◌, ◌≤◌, ◌∙◌, ◌+◌, ◌∷◌, [], ℕ, None, false, List, length, map, ap, sym, refl, subst, arith, true≢false}
 use Rattle.history_rules.specs.declared.entry.Event.TheVariants.{Promoted}
-use Rattle.history_rules.specs.Nodes.{IsNode, generation_of, primary_of}
+use Rattle.history_rules.specs.Nodes.{IsNode, generation_of, is_at, primary_of}
 use Rattle.history_rules.specs.Lines.{entries_of_line}
 use Rattle.history_book.specs.Log.{printed, Log, shown}
+use Rattle.cluster_state.specs.CallsLeft.{calls_in}
+use Rattle.cluster_state.specs.JobsIn.{jobs_in}
+use Rattle.cluster_state.specs.MergedCopies.{copies_in}
+use Rattle.cluster_state.specs.NamesIn.{names_in}
+use Rattle.cluster_state.specs.PlansIn.{plans_in}
 use Rattle.cluster_state.specs.Run.{Run}
+use Rattle.cluster_state.specs.Sizes.{sizes_in}
 use Rattle.cluster_state.specs.Met.{met_in, with_met, ArePlanned}
 use Rattle.cluster_state.proofs.Frames.{rule_at}
 use Rattle.cluster_state.proofs.Ledgers.{asked_of, asked_size, legal_of, told_of, vacant_of}
 use Rattle.cluster_state.proofs.MergingPaths.{two_parts, three_parts}
 use Rattle.cluster_state.proofs.MetStands.{behind, run_behind, counted, stands_behind, now_behind, as_many, on_any}
 use Rattle.cluster_recovery.proofs.MetLives.{begun_at, unanswered_at, met_unbegun, met_vacant, met_idle, met_promotion}
+use Rattle.cluster_recovery.proofs.KeptPromotion.{promoted_rest}
 use Rattle.cluster_recovery.proofs.PromotedNodes.{may_promote, can_path, promote_path}
 use Rattle.cluster_recovery.proofs.PromotedMerges.{promoted_stands}
 use Rattle.cluster_recovery.proofs.promoting.promote_node.Goals as goal
@@ -68,6 +75,21 @@ returns-clause-ok g c =
     (λ (l : Log). shown c.args.at (Promoted c.args.n (record { 0 = generation_of (printed c.args.cluster.now.log) + 1 }) c.args.forced (record { 0 = c.args.forced.0 + 1 })) ∷ l) c.cluster.view_is c.in_ok-before.ensures.log c.in_ok-before.ensures.nodes
     (c.note_promoted.ensures.log ∙ λ i. shown c.args.at (Promoted c.args.n (record { 0 = last i + 1 }) c.args.forced (record { 0 = c.args.forced.0 + 1 })) ∷ with_met false c.args.at 1 c.as_slice-2.result.now (map (met_in g.D.FaultDir.planned) c.promote_in.new.places.items) c.met_before.new.ledger.log)
     c.note_promoted.ensures.nodes (c.as_slice-2.ensures.value ∙ c.in_ok-before.ensures.met) refl refl refl
+
+pub returns-clause-rest : goal.returns-clause-rest
+returns-clause-rest g c =
+    promoted_rest g.D.Dir.cells g.D.FaultDir.planned g.D.FaultDir.names c.args.cluster.now
+    (record {
+      ended = false;
+      nodes = c.note_promoted.new.ledger.nodes;
+      log = c.note_promoted.new.ledger.log;
+      rest = record { calls_left = calls_in c.cluster.inside.carries c.promote_in.new.places.items; cut = c.note_promoted.new.ledger.cut; sizes = sizes_in c.promote_in.new.places.items; jobs = jobs_in c.promote_in.new.places.items; copies = copies_in c.promote_in.new.places.items; tasks = c.cluster.inside.tasks; plans = plans_in g.D.FaultDir.planned c.promote_in.new.places.items; names = names_in g.D.FaultDir.names c.promote_in.new.places.items };
+    })
+    c.cluster.inside.carries c.cluster.inside.ledger.cut c.note_promoted.new.ledger.cut c.cluster.inside.tasks c.cluster.inside.places.items c.promote_in.new.places.items (ap (λ (x : Run). x.rest) c.cluster.view_is) refl (c.note_promoted.ensures.cut ∙ c.in_ok-before.ensures.cut)
+    c.args.n.0 (record { 0 = c.generation-last.result + 1 }) c.args.forced c.in_ok-promote_in.ensures c.cluster.inside.ledger.log c.cluster.inside.ledger.nodes
+    (c.cluster.invariant (ap (λ (x : Run). x.ended) c.cluster.view_is ∙ c.requires.running)) (asked_of (λ (l : Log). primary_of (printed l) ≡ None) c.cluster.view_is refl c.requires.vacant)
+    (invariant_of-cluster-2 g c refl) (asked_size (λ (k : ℕ). IsNode k c.args.n.0) c.cluster.view_is (c.note_promoted.ensures.nodes ∙ c.in_ok-before.ensures.nodes) c.requires.node)
+    (λ m apart. ap (λ (l : Log). is_at (primary_of (printed l)) m) c.note_promoted.ensures.log ∙ apart)
 
 pub returns-clause-tasks : goal.returns-clause-tasks
 returns-clause-tasks g c = ap (λ (r : Run). r.rest.tasks) c.cluster.view_is

@@ -6,7 +6,7 @@ use Rattle.history_rules.specs.Nodes.{is_running, is_at, primary_of}
 use Rattle.cluster_state.specs.LifeCalls.{crash_event, crashed_plans, CrashesDirBy}
 use Rattle.cluster_state.specs.GivesUp.{met_log}
 use Rattle.cluster_state.specs.Run.{IsEnded, IsNow, files_at, plans_at}
-use Rattle.cluster_recovery.specs.Crashes.{CrashTells}
+use Rattle.cluster_core.specs.Given.{CrashTells}
 use Rattle.cluster_site.proofs.Stands.{call_stands, call_does}
 use Rattle.cluster_site.specs.Sites.{SiteRun}
 use Rattle.cluster_site.proofs.site.Site.crash.Goals as goal

@@ -2,8 +2,7 @@ use Rattle.std.proofs.Common.{refl, subst}
 use Rattle.std.specs.Prelude.{IfOk, OnErr, OnOk}
 use Rattle.script_serving.specs.declared.script.LineCommand.TheVariants.{Drain}
 use Rattle.cluster_state.specs.Run.{IsEnded}
-use Rattle.cluster_merges.specs.TaskCalls.{DrainTurns}
-use Rattle.cluster_merges.specs.MergesKept.{KeepsButTasks}
+use Rattle.cluster_core.specs.Given.{DrainTurns, KeepsButTasks}
 use Rattle.cluster_site.proofs.Stands.{call_stands, call_does}
 use Rattle.cluster_site.specs.Sites.{SiteRun}
 use Rattle.cluster_site.proofs.site.Site.drained.Goals as goal

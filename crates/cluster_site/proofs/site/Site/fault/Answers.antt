@@ -2,7 +2,7 @@ use Rattle.std.proofs.Common.{refl, subst}
 use Rattle.std.specs.Prelude.{OnErr, OnOk}
 use Rattle.script_serving.specs.declared.script.LineCommand.TheVariants.{Fault}
 use Rattle.cluster_state.specs.Run.{IsEnded}
-use Rattle.cluster_recovery.specs.Planning.{PlansFault}
+use Rattle.cluster_core.specs.Given.{PlansFault}
 use Rattle.cluster_site.proofs.Stands.{call_stands, call_does}
 use Rattle.cluster_site.specs.Sites.{SiteRun}
 use Rattle.cluster_site.proofs.site.Site.fault.Goals as goal

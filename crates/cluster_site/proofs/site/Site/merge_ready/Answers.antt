@@ -1,8 +1,7 @@
 use Rattle.std.proofs.Common.{subst}
 use Rattle.std.specs.Prelude.{OnErr, OnOk}
 use Rattle.cluster_state.specs.Run.{IsEnded}
-use Rattle.cluster_merges.specs.MergePaths.{EndsBuild}
-use Rattle.cluster_merges.specs.MergesKept.{KeepsBuilt}
+use Rattle.cluster_core.specs.Given.{EndsBuild, KeepsBuilt}
 use Rattle.cluster_site.proofs.Stands.{task_stands, task_does}
 use Rattle.cluster_site.specs.Sites.{SiteRun}
 use Rattle.merge_tasks.specs.Board.{is_unwritten, open_merge}

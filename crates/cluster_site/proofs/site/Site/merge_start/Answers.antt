@@ -2,8 +2,7 @@ use Rattle.std.proofs.Common.{refl, subst}
 use Rattle.std.specs.Prelude.{OnErr, OnOk}
 use Rattle.script_serving.specs.declared.script.LineCommand.TheVariants.{Merge}
 use Rattle.cluster_state.specs.Run.{IsEnded}
-use Rattle.cluster_merges.specs.TaskCalls.{MergeLine}
-use Rattle.cluster_merges.specs.MergesKept.{KeepsButSizes}
+use Rattle.cluster_core.specs.Given.{MergeLine, KeepsButSizes}
 use Rattle.cluster_site.proofs.Stands.{line_stands, line_does, none_of}
 use Rattle.cluster_site.specs.Sites.{SiteRun}
 use Rattle.cluster_site.proofs.site.Site.merge_start.Goals as goal

@@ -1,8 +1,7 @@
 use Rattle.std.proofs.Common.{subst}
 use Rattle.std.specs.Prelude.{IfOk, OnErr, OnOk}
 use Rattle.cluster_state.specs.Run.{IsEnded}
-use Rattle.cluster_merges.specs.TaskCalls.{PartTurns}
-use Rattle.cluster_merges.specs.MergesKept.{KeepsButCopies}
+use Rattle.cluster_core.specs.Given.{PartTurns, KeepsButCopies}
 use Rattle.cluster_site.proofs.Stands.{task_stands, task_does}
 use Rattle.cluster_site.specs.Sites.{SiteRun}
 use Rattle.cluster_site.proofs.site.Site.precopy_arrived.Goals as goal

@@ -1,8 +1,7 @@
 use Rattle.std.proofs.Common.{subst}
 use Rattle.std.specs.Prelude.{IfOk, OnErr, OnOk}
 use Rattle.cluster_state.specs.Run.{IsEnded}
-use Rattle.cluster_merges.specs.MergePaths.{TakesTask}
-use Rattle.cluster_merges.specs.MergesKept.{KeepsButTasks}
+use Rattle.cluster_core.specs.Given.{TakesTask, KeepsButTasks}
 use Rattle.cluster_site.proofs.Stands.{task_stands, task_does}
 use Rattle.cluster_site.specs.Sites.{SiteRun}
 use Rattle.cluster_site.proofs.site.Site.task_take.Goals as goal
