@@ -152,11 +152,11 @@ but_with job d (c ∷ cs) is = by (c.number == job) refl (but_with job d cs is)
 
 numbered : (job : ℕ) (d : Job) (cs : List Job) → copy_at job cs ≡ Some d → (d.number == job) ≡ true
 numbered job d [] is = absurd (cc)
-numbered job d (c ∷ cs) is = by (c.number == job) refl is
+numbered job d (c ∷ cs) is = by (c.number == job) refl (numbered job d cs) is
   where
-    by : (b : Bool) → (c.number == job) ≡ b → (if b then Some c else copy_at job cs) ≡ Some d → (d.number == job) ≡ true
-    by true here is = let same : ◌≡◌ {A = Job} c d = cc in ap (λ (x : Job). x.number == job) (sym same) ∙ here
-    by false apart is = numbered job d cs is
+    by : (b : Bool) → (c.number == job) ≡ b → (copy_at job cs ≡ Some d → (d.number == job) ≡ true) → (if b then Some c else copy_at job cs) ≡ Some d → (d.number == job) ≡ true
+    by true here rest is = let same : ◌≡◌ {A = Job} c d = cc in ap (λ (x : Job). x.number == job) (sym same) ∙ here
+    by false apart rest is = rest is
 
 -- the copy has ended at a replica
 pub but_ended_copy : {D : Type 0} (job : ℕ) (r s : ReplicaParts D) → s.copies.running ≡ copies_without job r.copies.running → copies_but job (map told_copy s.copies.running) ≡ copies_but job (map told_copy r.copies.running)
@@ -167,7 +167,7 @@ pub but_settled : {D : Type 0} (cells : D → Cells) (job : ℕ) (r s : ReplicaP
 but_settled cells job r s runs w = but_ended_copy job r s (by (copy_at job r.copies.running) runs w.settles)
   where
     by : (o : Option Job) → IsSome o → IfSome o (λ c. SettlesCopy job c r s) → s.copies.running ≡ copies_without job r.copies.running
-    by None no is = absurd (true≢false (sym no))
+    by None none is = absurd (true≢false (sym none))
     by (Some c) some is = ap (λ (m : MergeCopies). m.running) is.copies
 
 -- a part is in
@@ -182,7 +182,7 @@ but_taken cells job part r s runs w = by (copy_at job r.copies.running) runs w.c
     at c (Some d) e is = ap (λ (cs : List Job). copies_but job (map told_copy cs)) is.1 ∙ but_with job d r.copies.running (numbered job d s.copies.running e)
 
     by : (o : Option Job) → IsSome o → IfSome o (λ c. IsSomeAnd (copy_at job s.copies.running) (Now c)) → copies_but job (map told_copy s.copies.running) ≡ copies_but job (map told_copy r.copies.running)
-    by None no is = absurd (true≢false (sym no))
+    by None none is = absurd (true≢false (sym none))
     by (Some c) some is = at c (copy_at job s.copies.running) refl is
 
 -- ---- the rows of merges
@@ -204,6 +204,34 @@ more_rows at factor old new w same =
     let more : length old.rest.tasks.rows ≡ length (old.rest.tasks.rows ++ record { seg = w.seg; line = at.line; spread = None } ∷ []) = ap length (sym same ∙ w.begins.rows_are) in
     let count = length-append old.rest.tasks.rows (record { seg = w.seg; line = at.line; spread = None } ∷ []) in
     absurd (omega (arith, more, count))
+
+-- ---- over what callers see
+
+-- where all is as before, it is but for the sizes
+pub none_sized : (old new : Run) → KeepsRest old new → KeepsButSizes old new
+none_sized old new kept = record {
+  rest = kept ∙ λ i. record old.rest { sizes = (sym sizes) i; tasks = (sym tasks) i; plans = new.rest.plans; names = new.rest.names };
+  still = λ same. kept;
+}
+  where
+    sizes : new.rest.sizes ≡ old.rest.sizes
+    sizes = ap (λ (x : Rest). x.sizes) kept
+
+    tasks : new.rest.tasks ≡ old.rest.tasks
+    tasks = ap (λ (x : Rest). x.tasks) kept
+
+-- a line that was refused behind it
+pub sized_then : (a b c : Run) → KeepsButSizes a b → KeepsRest b c → KeepsButSizes a c
+sized_then a b c first second = record {
+  rest = second ∙ (ap (λ (left : Rest). record left { plans = c.rest.plans; names = c.rest.names }) first.rest ∙ λ i. record a.rest { sizes = (sym sizes) i; tasks = (sym tasks) i; plans = c.rest.plans; names = c.rest.names });
+  still = λ same. rest_then a b c (first.still (ap (λ (x : Board). x.rows) (sym tasks) ∙ same)) second;
+}
+  where
+    sizes : c.rest.sizes ≡ b.rest.sizes
+    sizes = ap (λ (x : Rest). x.sizes) second
+
+    tasks : c.rest.tasks ≡ b.rest.tasks
+    tasks = ap (λ (x : Rest). x.tasks) second
 
 -- ---- in the terms of a call
 
@@ -284,10 +312,13 @@ module _ {D : Type 0} {named names : List (List Name)} (r now : Run) (carries : 
 module _ {D : Type 0} {named names : List (List Name)} (r now : Run) (carries : List Bool) (cut later : Bool) (board after : Board) (plans next : List Plans) (old new : List (Option (NodePlace D)))
     (was : record { calls_left = calls_in carries old; cut = cut; sizes = sizes_in old; jobs = jobs_in old; copies = copies_in old; tasks = board; plans = plans; names = named } ≡ r.rest)
     (is : record { calls_left = calls_in carries new; cut = later; sizes = sizes_in new; jobs = jobs_in new; copies = copies_in new; tasks = after; plans = next; names = names } ≡ now.rest) (same : later ≡ cut) where
-  pub all_kept : after ≡ board → TellsAll old new → KeepsRest r now
+  all_kept : after ≡ board → TellsAll old new → KeepsRest r now
   all_kept board_is t =
       tasks_rest r now carries cut later board after plans next old new was is same t
       ∙ λ i. record r.rest { tasks = (sym (ap (λ (x : Rest). x.tasks) is) ∙ (board_is ∙ ap (λ (x : Rest). x.tasks) was)) i; plans = now.rest.plans; names = now.rest.names }
+
+  pub all_sized : after ≡ board → TellsAll old new → KeepsButSizes r now
+  all_sized board_is t = none_sized r now (all_kept board_is t)
 
   pub but_ended : (at : At) (line : LineNo) (seg : SegNo) (by : Option At) (p n : NodeNo) (job : ℕ) (olds news : List (ℕ × ℕ)) (b met ledger : Sheet) (turn : CopyTurn) → StepsCopyTo at line seg by p n job olds news b met ledger board after turn
       → TellsButEnded n.0 job old new turn → KeepsButEnded n.0 job r now turn
@@ -295,31 +326,3 @@ module _ {D : Type 0} {named names : List (List Name)} (r now : Run) (carries : 
   but_ended at line seg by p n job olds news b met ledger (Hands file) steps t = all_kept steps.board_is t
   but_ended at line seg by p n job olds news b met ledger Ends steps t = but_copies r now carries cut later board after plans next old new was is same n.0 job t
   but_ended at line seg by p n job olds news b met ledger Fails steps t = but_copies r now carries cut later board after plans next old new was is same n.0 job t
-
--- ---- over what callers see
-
--- where all is as before, it is but for the sizes
-pub none_sized : (old new : Run) → KeepsRest old new → KeepsButSizes old new
-none_sized old new kept = record {
-  rest = kept ∙ λ i. record old.rest { sizes = (sym sizes) i; tasks = (sym tasks) i; plans = new.rest.plans; names = new.rest.names };
-  still = λ same. kept;
-}
-  where
-    sizes : new.rest.sizes ≡ old.rest.sizes
-    sizes = ap (λ (x : Rest). x.sizes) kept
-
-    tasks : new.rest.tasks ≡ old.rest.tasks
-    tasks = ap (λ (x : Rest). x.tasks) kept
-
--- a line that was refused behind it
-pub sized_then : (a b c : Run) → KeepsButSizes a b → KeepsRest b c → KeepsButSizes a c
-sized_then a b c first second = record {
-  rest = second ∙ (ap (λ (left : Rest). record left { plans = c.rest.plans; names = c.rest.names }) first.rest ∙ λ i. record a.rest { sizes = (sym sizes) i; tasks = (sym tasks) i; plans = c.rest.plans; names = c.rest.names });
-  still = λ same. rest_then a b c (first.still (ap (λ (x : Board). x.rows) (sym tasks) ∙ same)) second;
-}
-  where
-    sizes : c.rest.sizes ≡ b.rest.sizes
-    sizes = ap (λ (x : Rest). x.sizes) second
-
-    tasks : c.rest.tasks ≡ b.rest.tasks
-    tasks = ap (λ (x : Rest). x.tasks) second

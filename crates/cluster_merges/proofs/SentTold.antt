@@ -23,7 +23,7 @@ use Rattle.history_book.specs.declared.inner.Step.TheVariants.{Merge as MergeSte
 use Rattle.merge_tasks.specs.declared.tasks.OpenMerge.{OpenMerge}
 use Rattle.merge_tasks.specs.declared.tasks.Sent.{Sent}
 use Rattle.merge_tasks.specs.declared.tasks.Spread.{Spread}
-use Rattle.merge_tasks.specs.Board.{Board, open_merge, with_spread, without_merge, is_unwritten}
+use Rattle.merge_tasks.specs.Board.{Board, open_merge, spread_at, with_spread, without_merge, is_unwritten}
 use Rattle.merge_tasks.proofs.BoardRows.{open_with}
 use Rattle.cluster_nodes.specs.declared.held.HeldTicket.{HeldTicket}
 use Rattle.cluster_nodes.specs.declared.nodes.Node.TheVariants.{Replica}
@@ -42,7 +42,7 @@ use Rattle.cluster_state.proofs.JobsLeft.{files_are}
 use Rattle.cluster_state.proofs.KeptOthers.{told_apart, told_one, merged_are}
 use Rattle.cluster_state.proofs.RestKept.{place_sizes, map_same}
 use Rattle.cluster_merges.specs.MergePaths.{WritesMerge, GivesUp, EndsBuild}
-use Rattle.cluster_merges.specs.MergesKept.{KeepsBuiltBy, TellsAll, TellsBuilt}
+use Rattle.cluster_merges.specs.MergesKept.{KeepsBuilt, KeepsBuiltBy, TellsAll, TellsBuilt}
 use Rattle.cluster_merges.specs.SentTold.{goes_to, copies_left, files_left, TellsSent, KeepsButSent, TellsSends}
 use Rattle.cluster_merges.proofs.KeptMerges.{sizes_same, but_sizes, none_open}
 
@@ -220,10 +220,14 @@ module _ {D : Type 0} {named names : List (List Name)} (r now : Run) (carries : 
       seen s told = subst (λ (z : Log × (JobFiles × (JobFiles × (List MergedCopy × List MergedCopy)))). TellsSent z.0 spread.state s z.1.0 z.1.1.0 z.1.1.1.0 z.1.1.1.1)
           (λ i. (log_is i, (files_were s.node.0 i, (files_now s.node.0 i, (copies_were s.node.0 i, copies_now s.node.0 i))))) told
 
-  -- by what has become of a merge whose segment was built, which is another merge's row no more
-  pub built_kept : (now.rest.tasks.rows ≡ r.rest.tasks.rows → ⊥) → (o : Option Spread) → TellsBuilt log o old new → KeepsBuiltBy true o r now
-  built_kept other None t = but_sizes r now carries cut later board after plans next old new was is same (λ rows. absurd (other rows)) t
-  built_kept other (Some spread) t = but_sent spread t
+  -- by what has become of a merge whose segment was built, which has another row now, or none
+  built_by : (now.rest.tasks.rows ≡ r.rest.tasks.rows → ⊥) → (o : Option Spread) → TellsBuilt log o old new → KeepsBuiltBy true o r now
+  built_by other None t = but_sizes r now carries cut later board after plans next old new was is same (λ rows. absurd (other rows)) t
+  built_by other (Some spread) t = but_sent spread t
+
+  pub built_kept : (seg : SegNo) → is_unwritten (open_merge seg.0 r.rest.tasks.rows) ≡ true → (now.rest.tasks.rows ≡ r.rest.tasks.rows → ⊥) → TellsBuilt log (spread_at (open_merge seg.0 after.rows)) old new → KeepsBuilt seg r now
+  built_kept seg unwritten other t = subst (λ (b : Bool). KeepsBuiltBy b (spread_at (open_merge seg.0 now.rest.tasks.rows)) r now) (sym unwritten)
+      (built_by other (spread_at (open_merge seg.0 now.rest.tasks.rows)) (subst (λ (x : Rest). TellsBuilt log (spread_at (open_merge seg.0 x.tasks.rows)) old new) is t))
 
 -- a merge whose segment was built has another row now, or none
 pub built_rows : (line : LineNo) (seg : SegNo) (by : Option At) (old new : Run) → is_unwritten (open_merge seg.0 old.rest.tasks.rows) ≡ true → EndsBuild line seg by old new true → new.rest.tasks.rows ≡ old.rest.tasks.rows → ⊥

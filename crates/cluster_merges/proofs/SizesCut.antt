@@ -80,11 +80,11 @@ no_input n reads rs ss (m ∷ ms) apart all =
 -- what is so of all is so of the one of a number
 all_found : (P : Merging → Type 0) (seg : ℕ) (ms : List Merging) (m : Merging) → merge_of seg ms ≡ Some m → AllByRecursion P ms → P m
 all_found P seg [] m is all = absurd (cc)
-all_found P seg (x ∷ ms) m is all = by (x.task.seg.0 == seg) is
+all_found P seg (x ∷ ms) m is all = by (x.task.seg.0 == seg) (λ e. all_found P seg ms m e all.1) is
   where
-    by : (t : Bool) → (if t then Some x else merge_of seg ms) ≡ Some m → P m
-    by true is = let same : ◌≡◌ {A = Merging} x m = cc in subst P same all.0
-    by false is = all_found P seg ms m is all.1
+    by : (t : Bool) → (merge_of seg ms ≡ Some m → P m) → (if t then Some x else merge_of seg ms) ≡ Some m → P m
+    by true rest is = let same : ◌≡◌ {A = Merging} x m = cc in subst P same all.0
+    by false rest is = rest is
 
 -- ---- the sizes
 
@@ -119,18 +119,19 @@ module _ (inputs held rest : List SegNo) (split : (r : SegRecord) → is_in held
       → map (size_by rest) (map (λ (x : Part). x.0) (in_place inputs merged (zip rs ss))) ≡ in_their_place told (map (is_in inputs) rs) (map (size_by held) rs)
   place_sizes_are merged told new [] ss long = refl
   place_sizes_are merged told new (r ∷ rs) [] long = absurd (omega (arith, long))
-  place_sizes_are merged told new (r ∷ rs) (s ∷ ss) long = by (is_in inputs r) refl
+  place_sizes_are merged told new (r ∷ rs) (s ∷ ss) long = by (is_in inputs r) refl (place_sizes_are merged told new rs ss (omega (arith, long)))
     where
       parts : Part → SegRecord
       parts x = x.0
 
       by : (t : Bool) → is_in inputs r ≡ t
+          → map (size_by rest) (map parts (in_place inputs merged (zip rs ss))) ≡ in_their_place told (map (is_in inputs) rs) (map (size_by held) rs)
           → map (size_by rest) (map parts (if t then merged ++ others_in inputs (zip rs ss) else (r, s) ∷ in_place inputs merged (zip rs ss))) ≡ in_their_place told (t ∷ map (is_in inputs) rs) (size_by held r ∷ map (size_by held) rs)
-      by true is =
+      by true is more =
           ap (map (size_by rest)) (map-append parts merged (others_in inputs (zip rs ss)))
           ∙ (map-append (size_by rest) (map parts merged) (map parts (others_in inputs (zip rs ss)))
           ∙ λ i. new i ++ others_sizes rs ss (omega (arith, long)) i)
-      by false none = λ i. size_stays r none i ∷ place_sizes_are merged told new rs ss (omega (arith, long)) i
+      by false none more = λ i. size_stays r none i ∷ more i
 
 -- the number of a record stays
 number_by : (g : ℕ) (r : SegRecord) (o : Option (List Bool)) → (record_by g r o).seg.0 ≡ r.seg.0

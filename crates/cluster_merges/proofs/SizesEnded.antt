@@ -53,11 +53,11 @@ module _ (inputs : List SegNo) where
 
   none_in : (rs : List SegRecord) → length (filter (is_in inputs) rs) ≤ 0 → AllByRecursion (λ r. is_in inputs r ≡ false) rs
   none_in [] few = tt
-  none_in (r ∷ rs) few = by (is_in inputs r) refl
+  none_in (r ∷ rs) few = by (is_in inputs r) refl (none_in rs)
     where
-      by : (b : Bool) → is_in inputs r ≡ b → (is_in inputs r ≡ false) × AllByRecursion (λ r. is_in inputs r ≡ false) rs
-      by true is = let more = one_more true r rs is in absurd (omega (arith, few, more))
-      by false is = let same = one_more false r rs is in (is, none_in rs (omega (arith, few, same)))
+      by : (b : Bool) → is_in inputs r ≡ b → (length (filter (is_in inputs) rs) ≤ 0 → AllByRecursion (λ r. is_in inputs r ≡ false) rs) → (is_in inputs r ≡ false) × AllByRecursion (λ r. is_in inputs r ≡ false) rs
+      by true is rest = let more = one_more true r rs is in absurd (omega (arith, few, more))
+      by false is rest = let same = one_more false r rs is in (is, rest (omega (arith, few, same)))
 
   at_least : (from count : ℕ) (rs : List SegRecord) → AllByRecursion (λ r. is_in inputs r ≡ true) (take count (drop from rs)) → length (take count (drop from rs)) ≡ count → count ≤ length (filter (is_in inputs) rs)
   at_least zero zero rs all long = omega arith
@@ -77,11 +77,11 @@ module _ (inputs : List SegNo) where
   is_range zero (suc n) [] all long few = tt
   is_range zero (suc n) (r ∷ rs) all long few = let more = one_more true r rs all.0 in (all.0, is_range zero n rs all.1 (omega (arith, long)) (omega (arith, few, more)))
   is_range (suc k) n [] all long few = tt
-  is_range (suc k) n (r ∷ rs) all long few = by (is_in inputs r) refl
+  is_range (suc k) n (r ∷ rs) all long few = by (is_in inputs r) refl (is_range k n rs all long)
     where
-      by : (b : Bool) → is_in inputs r ≡ b → (is_in inputs r ≡ false) × IsRange inputs k n rs
-      by true is = let more = one_more true r rs is in let least = at_least k n rs all long in absurd (omega (arith, few, more, least))
-      by false is = let same = one_more false r rs is in (is, is_range k n rs all long (omega (arith, few, same)))
+      by : (b : Bool) → is_in inputs r ≡ b → (length (filter (is_in inputs) rs) ≤ n → IsRange inputs k n rs) → (is_in inputs r ≡ false) × IsRange inputs k n rs
+      by true is rest = let more = one_more true r rs is in let least = at_least k n rs all long in absurd (omega (arith, few, more, least))
+      by false is rest = let same = one_more false r rs is in (is, rest (omega (arith, few, same)))
 
   -- ---- the sizes then
 

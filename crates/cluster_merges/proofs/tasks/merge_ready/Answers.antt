@@ -2,7 +2,7 @@ use Rattle.std.proofs.Common.{◌≡◌, ◌∙◌, Bool, List, refl, ap, sym, s
 use Rattle.history_rules.specs.Nodes.{primary_of}
 use Rattle.history_book.specs.Log.{Log, printed}
 use Rattle.merge_tasks.specs.declared.tasks.OpenMerge.{OpenMerge}
-use Rattle.merge_tasks.specs.Board.{Board, open_merge, is_unwritten}
+use Rattle.merge_tasks.specs.Board.{Board, open_merge, spread_at, is_unwritten}
 use Rattle.cluster_merges.specs.MergesKept.{KeepsBuiltBy}
 use Rattle.cluster_state.specs.Run.{Run}
 use Rattle.cluster_state.proofs.MergingPaths.{third_at}
@@ -17,4 +17,4 @@ unreachable-requires g c =
 pub returns-then-not-is_unwritten-clause-rest : goal.returns-then-not-is_unwritten-clause-rest
 returns-then-not-is_unwritten-clause-rest g c =
     let tasks : c.state.inside.tasks ≡ c.args.state.now.rest.tasks = ap (λ (r : Run). r.rest.tasks) c.state.view_is in
-    subst (λ (t : Bool). KeepsBuiltBy t _ c.args.state.now c.args.state.now) (sym (ap (λ (b : Board). is_unwritten (open_merge c.args.seg.0 b.rows)) (sym tasks) ∙ sym c.if-not-is_unwritten.ensures)) refl
+    subst (λ (t : Bool). KeepsBuiltBy t (spread_at (open_merge c.args.seg.0 c.args.state.now.rest.tasks.rows)) c.args.state.now c.args.state.now) (sym (ap (λ (b : Board). is_unwritten (open_merge c.args.seg.0 b.rows)) (sym tasks) ∙ sym c.if-not-is_unwritten.ensures)) refl

@@ -1,4 +1,4 @@
-use Rattle.std.proofs.Common.{◌≡◌, ◌+◌, ◌∙◌, ℕ, Bool, List, length, true, Some, ap, sym, subst, refl, arith}
+use Rattle.std.proofs.Common.{◌≡◌, ◌+◌, ◌∙◌, ℕ, List, length, true, Some, ap, sym, subst, refl, arith}
 use Rattle.nrt_base.specs.declared.numbers.NodeNo.{NodeNo}
 use Rattle.history_rules.specs.Nodes.{IsNode, primary_of}
 use Rattle.history_book.specs.Log.{Log, printed}
@@ -11,7 +11,6 @@ use Rattle.cluster_merges.specs.MergePaths.{IsMergedOut}
 use Rattle.cluster_merges.proofs.InsideSteps.{all_is}
 use Rattle.cluster_merges.proofs.ReadyPaths.{is_on}
 use Rattle.cluster_merges.proofs.TaskBehind.{line_there, built_so}
-use Rattle.cluster_merges.specs.MergesKept.{KeepsBuiltBy}
 use Rattle.cluster_merges.proofs.SentTold.{built_kept, built_rows}
 use Rattle.cluster_merges.proofs.writes.ready_merge.Goals as goal
 
@@ -60,7 +59,5 @@ returns-clause-ok g c =
     refl refl refl _ refl refl refl c.ready_there.new.ledger c.ready_there.new.tasks refl refl c.in-Some.at c.args.line c.args.seg c.args.by (sym c.merge_on.ensures ∙ c.in-Some.is) c.args.p c.requires.primary _ c.in_ok-ready_there.ensures.ok
 
 pub returns-clause-rest : goal.returns-clause-rest
-returns-clause-rest g c =
-    subst (λ (t : Bool). KeepsBuiltBy t _ c.args.cluster.now _) (sym c.requires.unwritten)
-    (built_kept c.args.cluster.now _ _ _ _ _ _ _ _ c.cluster.inside.places.items c.ready_there.new.places.items (ap (λ (x : Run). x.rest) c.cluster.view_is) refl (c.in_ok-ready_there.ensures.cut ∙ c.met_before.ensures.cut)
-    c.met_before.new.ledger.log (c.met_before.ensures.log ∙ ap (λ (x : Run). x.log) c.cluster.view_is) (built_rows c.args.line c.args.seg c.args.by c.args.cluster.now _ c.requires.unwritten (returns-clause-ok g c)) _ c.in_ok-ready_there.ensures.rest)
+returns-clause-rest g c = built_kept c.args.cluster.now _ _ _ _ _ _ _ _ c.cluster.inside.places.items c.ready_there.new.places.items (ap (λ (x : Run). x.rest) c.cluster.view_is) refl (c.in_ok-ready_there.ensures.cut ∙ c.met_before.ensures.cut)
+    c.met_before.new.ledger.log (c.met_before.ensures.log ∙ ap (λ (x : Run). x.log) c.cluster.view_is) c.args.seg c.requires.unwritten (built_rows c.args.line c.args.seg c.args.by c.args.cluster.now _ c.requires.unwritten (returns-clause-ok g c)) c.in_ok-ready_there.ensures.rest
