@@ -1,7 +1,7 @@
 -- The sizes of the primary's segments where a merge is cut over.
-use Rattle.std.proofs.Common.{◌≡◌, ◌≢◌, ◌==◌, ◌||◌, ◌++◌, ◌∷◌, [], ℕ, zero, suc, Bool, true, false, List, map, length, not, nat_lt, Some, None, Option, refl, ap, ◌∙◌, sym, subst, arith, if◌then◌else◌}
+use Rattle.std.proofs.Common.{◌≡◌, ◌≢◌, ◌<◌, ◌==◌, ◌||◌, ◌++◌, ◌∷◌, [], ℕ, zero, suc, Bool, true, false, List, map, length, not, nat_lt, Some, None, Option, refl, ap, ◌∙◌, sym, subst, arith, if◌then◌else◌}
 use Rattle.std.specs.List.{All, AllByRecursion, AllZip, list_any, zip}
-use Rattle.std.proofs.lemmas.Bool.{ne_eqb}
+use Rattle.std.proofs.lemmas.Bool.{ne_eqb, lt-ltb}
 use Rattle.std.proofs.lemmas.List.{length-map, map-append}
 use Rattle.std.proofs.lemmas.List.Elements.{Contains-append_right}
 use Rattle.std.proofs.lemmas.List.Folds.{list_any-append}
@@ -133,6 +133,17 @@ module _ (inputs held rest : List SegNo) (split : (r : SegRecord) → is_in held
           ∙ λ i. new i ++ others_sizes rs ss (omega (arith, long)) i)
       by false none more = λ i. size_stays r none i ∷ more i
 
+-- some record is an input
+some_input : (inputs : List SegNo) (rs : List SegRecord) (ss : List Shown) → length rs ≡ length ss → 0 < length (inputs_in inputs (zip rs ss)) → list_any (λ b. b) (map (is_in inputs) rs) ≡ true
+some_input inputs [] ss long has = absurd (omega (arith, has))
+some_input inputs (r ∷ rs) [] long has = absurd (omega (arith, long))
+some_input inputs (r ∷ rs) (s ∷ ss) long has = by (is_in inputs r) (some_input inputs rs ss (omega (arith, long))) has
+  where
+    by : (t : Bool) → (0 < length (inputs_in inputs (zip rs ss)) → list_any (λ b. b) (map (is_in inputs) rs) ≡ true)
+        → 0 < length (if t then (r, s) ∷ inputs_in inputs (zip rs ss) else inputs_in inputs (zip rs ss)) → (t || list_any (λ b. b) (map (is_in inputs) rs)) ≡ true
+    by true more has = refl
+    by false more has = more has
+
 -- the number of a record stays
 number_by : (g : ℕ) (r : SegRecord) (o : Option (List Bool)) → (record_by g r o).seg.0 ≡ r.seg.0
 number_by g r None = refl
@@ -149,14 +160,20 @@ new_size g t rest none = by (record_after g t).live refl
     by : (k : ℕ) → r.live ≡ k → map (size_by rest) (map (λ (x : Part). x.0) (map (part_after g) (if stays g [] t then t ∷ [] else []))) ≡ merged_size r.live
     by zero e = ap (λ (n : ℕ). map (size_by rest) (map (λ (x : Part). x.0) (map (part_after g) (if nat_lt 0 n || false then t ∷ [] else [])))) e ∙ ap merged_size (sym e)
     by (suc k) e =
-        ap (λ (n : ℕ). map (size_by rest) (map (λ (x : Part). x.0) (map (part_after g) (if nat_lt 0 n || false then t ∷ [] else [])))) e
-        ∙ ((λ i. (if (e i == 0) || none i then None else Some (e i)) ∷ []) ∙ ap merged_size (sym e))
+        let told : (r.live == 0) ≡ false = ne_eqb r.live 0 (λ none_live. absurd (omega (arith, e, none_live))) in
+        ap (λ (b : Bool). map (size_by rest) (map (λ (x : Part). x.0) (map (part_after g) (if b || false then t ∷ [] else [])))) (lt-ltb 0 r.live (omega (arith, e)))
+        ∙ ((λ i. (if told i || none i then None else Some r.live) ∷ []) ∙ (ap (λ (n : ℕ). Some n ∷ []) e ∙ ap merged_size (sym e)))
 
 module _ {D : Type 0} where
   pub cut_sizes : (cells : D → Cells) (seg : SegNo) (q s : PrimaryParts D) → IsPrimary cells q → IsCutOver seg q s → CutsSizes (merge_sizes q) (merge_sizes s)
   cut_sizes cells seg q s whole cut = record {
     inputs = map (is_in m.inputs) q.infos.segs;
     count = length-map q.infos.segs (is_in m.inputs) ∙ sym (length-map q.infos.segs (size_by held));
+    some =
+        let listed = length-map (inputs_in m.inputs (zip q.infos.segs q.segs)) (λ (x : Part). x.0.seg) in
+        let are : length (map (λ (x : Part). x.0.seg) (inputs_in m.inputs (zip q.infos.segs q.segs))) ≡ length m.inputs = ap length mine.flight.numbers in
+        let some = mine.flight.some in
+        some_input m.inputs q.infos.segs q.segs long (omega (arith, listed, are, some));
     untold = untold m.inputs held rest split q.infos.segs;
     live = (record_after g turn).live;
     are = (λ i. map (size_by (merge_inputs (cut.merges i))) ((ap (λ (x : Infos). x.segs) cut.infos ∙ cut.cut.records_are) i))
@@ -185,7 +202,7 @@ module _ {D : Type 0} where
       split r = inputs_split (λ x. x.0 == r.seg.0) seg.0 q.merges m cut.found
 
       long : length q.infos.segs ≡ length q.segs
-      long = AllZip-long (IsSegmentIn (reads_of (cells q.dir))) q.infos.segs q.segs whole.writer.stands.each
+      long = sym (AllZip-long (IsSegmentIn (reads_of (cells q.dir))) q.infos.segs q.segs whole.writer.stands.each)
 
       mine : IsMerging (reads_of (cells q.dir)) q.infos.segs q.segs m
       mine = all_found (IsMerging (reads_of (cells q.dir)) q.infos.segs q.segs) seg.0 q.merges m cut.found whole.merging

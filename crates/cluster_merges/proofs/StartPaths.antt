@@ -3,11 +3,13 @@ use Rattle.std.proofs.Common.{◌≡◌, ◌≢◌, ◌≤◌, ◌<◌, ◌+◌,
 use Rattle.std.specs.Prelude.{IfSome, IfOk}
 use Rattle.std.proofs.lemmas.Bool.{eq-eqb}
 use Rattle.std.proofs.lemmas.List.{length-map}
+use Rattle.std.proofs.lemmas.Slice.Zip.{AllZip-long}
 use Rattle.nrt_base.specs.SegNumbers.{segment_number, segments_of_generation}
 use Rattle.nrt_base.specs.declared.numbers.At.{At}
 use Rattle.nrt_base.specs.declared.numbers.NodeNo.{NodeNo}
 use Rattle.nrt_base.specs.declared.numbers.SegNo.{SegNo}
 use Rattle.disk_model.specs.Disk.{Name, Cells, reads_of}
+use Rattle.seg_reader.specs.Stands.{IsSegmentIn}
 use Rattle.seg_reader.specs.Shown.{Shown}
 use Rattle.seg_merge.specs.declared.task.MergeTask.{MergeTask}
 use Rattle.merge_choice.specs.Choice.{IsClass, IsFirstRange, HasNoRange}
@@ -238,10 +240,11 @@ module _ {D : Type 0} (cells : D → Cells) (r : Run) (old new : List (Option (N
       held_sizes : sizes_in new ≡ without_range starts.start.from factor r.rest.sizes
       held_sizes =
           (sizes_moved cells b0 b3 old new p was.0 started_all.0 node0 (n3 ∙ (n2 ∙ n1)) primary0 (ap (λ (l : Log). primary_of (printed l)) log_now ∙ primary0) asked).1
-          ∙ (started_sizes cells factor q s task starts asked.step.whole (AllZip-long (IsSegmentIn (reads_of (cells q.dir))) q.infos.segs q.segs shows.whole.writer.stands.each)
+          ∙ (started_sizes cells factor q s task starts asked.step.whole (sym (AllZip-long (IsSegmentIn (reads_of (cells q.dir))) q.infos.segs q.segs shows.whole.writer.stands.each))
           ∙ ap (λ (l : List (Option ℕ)). without_range starts.start.from factor l) (sym sizes))
 
       pub begins_merge : {calls1 : List ℕ} {cut1 : Bool} {copies1 : List (List MergedCopy)} {jobs1 : List JobFiles} {plans1 : List Plans} {named1 : List (List Name)} → BeginsMerge at factor r (record { ended = false; nodes = b3.nodes; log = b3.log; rest = record { calls_left = calls1; cut = cut1; sizes = sizes_in new; jobs = jobs1; copies = copies1; tasks = after; plans = plans1; names = named1 } })
+      unfolding takes starts
       begins_merge = record {
         seg = task.seg;
         inputs = task.inputs;

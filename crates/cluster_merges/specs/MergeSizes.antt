@@ -1,6 +1,6 @@
 -- The sizes of the primary's segments, of which merges are chosen, where a merge starts and where it ends.
 use Rattle.std.specs.Prelude.{ℕ, zero, suc, ◌≡◌, ◌++◌, ◌∷◌, [], Bool, true, false, List, Option, Some, None, length, ⊤}
-use Rattle.std.specs.List.{AllZip}
+use Rattle.std.specs.List.{AllZip, list_any}
 
 -- the sizes where so many from a place on are told no more, as a merge has these segments
 abbrev pub without_range : (from count : ℕ) → List (Option ℕ) → List (Option ℕ)
@@ -34,10 +34,12 @@ abbrev pub merged_size : ℕ → List (Option ℕ)
 merged_size zero = []
 merged_size (suc k) = Some (suc k) ∷ []
 
--- A merge was cut over: the merged segment, of so many live rows, stands in the place of its inputs, of none of which a size was told.
+-- A merge was cut over: the merged segment, of so many live rows, stands in the place of its inputs, of which there are some, and of none of which a size
+-- was told.
 pub record CutsSizes (old new : List (Option ℕ)) : Type 0 where
   pub inputs : List Bool
   pub count : length inputs ≡ length old
+  pub some : list_any (λ b. b) inputs ≡ true
   pub untold : AllZip (λ b s. b ≡ true → s ≡ None) inputs old
   pub live : ℕ
   pub are : new ≡ in_their_place (merged_size live) inputs old
