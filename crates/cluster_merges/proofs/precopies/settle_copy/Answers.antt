@@ -61,7 +61,7 @@ returns-in_ok-end_task-in-Done-clause-cut g c = c.in_ok-end_task-in-Done.ensures
 
 pub returns-in_ok-end_task-in-Done-clause-rest : goal.returns-in_ok-end_task-in-Done-clause-rest
 returns-in_ok-end_task-in-Done-clause-rest g c = replica_told c.args.n.0 c.args.job (went_done _ _ _ _ c.in-Done.is c.in_ok-settle_in.ensures).replica c.args.places.now.items c.settle_in.new.places.items (went_done _ _ _ _ c.in-Done.is c.in_ok-settle_in.ensures).at (went_done _ _ _ _ c.in-Done.is c.in_ok-settle_in.ensures).moves (ap (λ (z : ReplicaParts _). stage_calls z.commits.stage) (went_done _ _ _ _ c.in-Done.is c.in_ok-settle_in.ensures).step.others) (ap (λ (z : ReplicaParts _). job_files z.seen.0 z.job) (went_done _ _ _ _ c.in-Done.is c.in_ok-settle_in.ensures).step.others)
-    (but_settled g.D.Dir.cells c.args.job (went_done _ _ _ _ c.in-Done.is c.in_ok-settle_in.ensures).at.parts (went_done _ _ _ _ c.in-Done.is c.in_ok-settle_in.ensures).replica ((settle_in-requires g c).may _ _ (went_done _ _ _ _ c.in-Done.is c.in_ok-settle_in.ensures).at.there).runs (went_done _ _ _ _ c.in-Done.is c.in_ok-settle_in.ensures).step)
+    (but_settled g.D.Dir.cells c.args.job (went_done _ _ _ _ c.in-Done.is c.in_ok-settle_in.ensures).at.parts (went_done _ _ _ _ c.in-Done.is c.in_ok-settle_in.ensures).replica ((may_settle g.D.Dir.cells c.args.ledger.now c.args.tasks.now c.args.places.now.items c.requires.shown c.args.n.0 c.args.seg.0 c.args.job c.requires.node c.requires.step).may (went_done _ _ _ _ c.in-Done.is c.in_ok-settle_in.ensures).at.parts (went_done _ _ _ _ c.in-Done.is c.in_ok-settle_in.ensures).at.held (went_done _ _ _ _ c.in-Done.is c.in_ok-settle_in.ensures).at.there).runs (went_done _ _ _ _ c.in-Done.is c.in_ok-settle_in.ensures).step)
 
 pub returns-in_ok-fail_task-in-Failed-clause-cut : goal.returns-in_ok-fail_task-in-Failed-clause-cut
 returns-in_ok-fail_task-in-Failed-clause-cut g c = c.in_ok-fail_task-in-Failed.ensures.ok.ends.cut

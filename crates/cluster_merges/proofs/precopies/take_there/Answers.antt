@@ -77,7 +77,7 @@ returns-in_ok-show_task_met-in-Done-clause-cut g c = c.show_task_met-in-Done.ens
 
 pub returns-in_ok-show_task_met-in-Done-clause-rest : goal.returns-in_ok-show_task_met-in-Done-clause-rest
 returns-in_ok-show_task_met-in-Done-clause-rest g c = replica_told c.args.n.0 c.args.job (went_done _ _ _ _ c.in-Done.is c.in_ok-take_merged_in.ensures).replica c.args.places.now.items c.take_merged_in.new.places.items (went_done _ _ _ _ c.in-Done.is c.in_ok-take_merged_in.ensures).at (went_done _ _ _ _ c.in-Done.is c.in_ok-take_merged_in.ensures).moves (ap (λ (z : ReplicaParts _). stage_calls z.commits.stage) (went_done _ _ _ _ c.in-Done.is c.in_ok-take_merged_in.ensures).step.others) (ap (λ (z : ReplicaParts _). job_files z.seen.0 z.job) (went_done _ _ _ _ c.in-Done.is c.in_ok-take_merged_in.ensures).step.others)
-    (but_taken g.D.Dir.cells c.args.job c.args.part (went_done _ _ _ _ c.in-Done.is c.in_ok-take_merged_in.ensures).at.parts (went_done _ _ _ _ c.in-Done.is c.in_ok-take_merged_in.ensures).replica ((take_merged_in-requires-clause-may g c).may _ _ (went_done _ _ _ _ c.in-Done.is c.in_ok-take_merged_in.ensures).at.there).runs (went_done _ _ _ _ c.in-Done.is c.in_ok-take_merged_in.ensures).step)
+    (but_taken g.D.Dir.cells c.args.job c.args.part (went_done _ _ _ _ c.in-Done.is c.in_ok-take_merged_in.ensures).at.parts (went_done _ _ _ _ c.in-Done.is c.in_ok-take_merged_in.ensures).replica ((may_take g.D.Dir.cells c.args.ledger.now c.args.tasks.now c.args.places.now.items c.requires.shown c.requires.legal c.args.seg c.args.n c.args.job c.requires.node (c.if-not-runs_in.ensures.runs refl) c.args.part c.requires.out c.requires.meta).may (went_done _ _ _ _ c.in-Done.is c.in_ok-take_merged_in.ensures).at.parts (went_done _ _ _ _ c.in-Done.is c.in_ok-take_merged_in.ensures).at.held (went_done _ _ _ _ c.in-Done.is c.in_ok-take_merged_in.ensures).at.there).runs (went_done _ _ _ _ c.in-Done.is c.in_ok-take_merged_in.ensures).step)
 
 pub returns-in_ok-fail_task-in-Failed-clause-cut : goal.returns-in_ok-fail_task-in-Failed-clause-cut
 returns-in_ok-fail_task-in-Failed-clause-cut g c = c.in_ok-fail_task-in-Failed.ensures.ok.ends.cut
