@@ -1,4 +1,4 @@
-use Rattle.std.proofs.Common.{◌≡◌, ◌≤◌, ◌+◌, ◌*◌, ◌∙◌, ℕ, List, length, true, Some, None, ap, sym, refl, arith}
+use Rattle.std.proofs.Common.{◌≡◌, ◌∙◌, ℕ, Some, None, ap, sym, refl, arith}
 use Rattle.history_rules.specs.Nodes.{IsNode, primary_of}
 use Rattle.history_rules.specs.Lines.{publish_in_flight}
 use Rattle.history_book.specs.Log.{Log, printed}

@@ -1,4 +1,4 @@
-use Rattle.std.proofs.Common.{◌≡◌, ◌+◌, ◌∙◌, ℕ, List, length, true, false, Some, ap, sym, subst, refl, arith}
+use Rattle.std.proofs.Common.{◌+◌, ◌∙◌, ℕ, List, true, false, ap, sym, subst}
 use Rattle.history_book.specs.declared.inner.Step.TheVariants.{Cut as CutStep}
 use Rattle.merge_tasks.specs.declared.drains.DrainCount.{DrainCount}
 use Rattle.merge_tasks.specs.Board.{done_under, counts_one}

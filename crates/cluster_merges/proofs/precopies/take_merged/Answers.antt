@@ -1,7 +1,6 @@
-use Rattle.std.proofs.Common.{◌≡◌, ◌∙◌, ℕ, List, true, Some, ap, sym, subst, refl, arith}
+use Rattle.std.proofs.Common.{◌≡◌, ◌∙◌, ℕ, List, Some, ap, sym, subst, refl, arith}
 use Rattle.history_rules.specs.Nodes.{IsNode}
-use Rattle.history_rules.specs.Legal.{IsLegalPast}
-use Rattle.history_book.specs.Log.{Log, printed}
+use Rattle.history_book.specs.Log.{Log}
 use Rattle.merge_tasks.specs.TaskLog.{carried_out}
 use Rattle.merge_tasks.specs.Board.{open_merge, spread_at, has_copy_task}
 use Rattle.cluster_nodes.specs.Went.{ByWent}

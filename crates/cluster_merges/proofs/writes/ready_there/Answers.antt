@@ -1,4 +1,4 @@
-use Rattle.std.proofs.Common.{◌≡◌, ◌+◌, ◌∙◌, ℕ, List, Option, length, true, false, ap, sym, subst, arith}
+use Rattle.std.proofs.Common.{◌≡◌, ◌+◌, ◌∙◌, ℕ, List, Option, length, false, ap, sym, subst, arith}
 use Rattle.history_rules.specs.Nodes.{primary_of}
 use Rattle.history_book.specs.Log.{Log, printed}
 use Rattle.history_book.specs.declared.inner.Step.TheVariants.{Merge as MergeStep}
