@@ -24,7 +24,7 @@ impl<D: FaultDir + Drop> Cluster<D> {
     ghost use Rattle.merge_tasks.specs.Board.{open_merge, is_unwritten};
     ghost use Rattle.cluster_state.specs.DueFaults.{ArrivesBy};
     ghost use Rattle.cluster_state.specs.Run.{IsEnded};
-    ghost use Rattle.cluster_merges.specs.MergesKept.{KeepsButSizes, KeepsButTasks, KeepsButCut, KeepsCopyTurn, KeepsButCopies};
+    ghost use Rattle.cluster_merges.specs.MergesKept.{KeepsBuilt, KeepsButSizes, KeepsButTasks, KeepsButCut, KeepsCopyTurn, KeepsButCopies};
     ghost use Rattle.cluster_merges.specs.MergePaths.{IsMergedOut, EndsBuild, TakesTask};
     ghost use Rattle.cluster_merges.specs.TaskCalls.{MergeLine, PrecopyTurns, PartTurns, CutTurns, DrainTurns};
     ghost use Rattle.cluster_core.specs.Doing.{Does, IsReplied, IsRepliedAtDone};
@@ -73,6 +73,7 @@ impl<D: FaultDir + Drop> Cluster<D> {
         requires merged { IsMergedOut self.old.log task.now.seg merged }
         ensures ok { OnOk result (EndsBuild task.now.line task.now.seg task.now.by self.old self.new
             (is_unwritten (open_merge task.now.seg.0 self.old.rest.tasks.rows))) }
+        ensures rest { OnOk result (KeepsBuilt task.now.seg self.old self.new) }
         ensures err { OnErr result (IsEnded self.old self.new) }
 
         // what its taker is owed
@@ -95,7 +96,7 @@ impl<D: FaultDir + Drop> Cluster<D> {
         requires node { IsNode self.old.nodes copy.node.0 }
         ensures ok { IfOk result (PrecopyTurns task.now.line task.now.seg task.now.by
             copy.node copy.job self.old self.new) }
-        ensures rest { IfOk result (KeepsCopyTurn copy.node.0 self.old self.new) }
+        ensures rest { IfOk result (KeepsCopyTurn copy.node.0 copy.job self.old self.new) }
         ensures err { OnErr result (IsEnded self.old self.new) }
 
         // what its taker is owed
@@ -131,7 +132,7 @@ impl<D: FaultDir + Drop> Cluster<D> {
         requires arrives { ArrivesBy file.now arrived }
         ensures ok { IfOk result (PartTurns task.now.line task.now.seg task.now.by
             copy.node copy.job file.now.fate self.old self.new) }
-        ensures rest { OnOk result (KeepsButCopies copy.node.0 self.old self.new) }
+        ensures rest { OnOk result (KeepsButCopies copy.node.0 copy.job self.old self.new) }
         ensures err { OnErr result (IsEnded self.old self.new) }
 
         // what its taker is owed

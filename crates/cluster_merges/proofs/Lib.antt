@@ -24,6 +24,9 @@ mod ReadyPaths
 mod ReplicaCount
 mod SendLoop
 mod SendSteps
+mod SentTold
+mod SizesCut
+mod SizesEnded
 pub mod StandSteps
 pub mod StartPaths
 mod TaskBehind

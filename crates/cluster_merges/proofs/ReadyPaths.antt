@@ -1,5 +1,5 @@
 -- A merge that is written and sent, in the terms of the call.
-use Rattle.std.proofs.Common.{◌≡◌, ◌≢◌, ◌≤◌, ◌<◌, ◌+◌, ◌==◌, ◌^◌, ◌++◌, ◌∷◌, [], ℕ, Bool, true, false, true≢false, List, length, get_or, Some, None, Option, Vec, Global, refl, ap, ◌∙◌, sym, subst, arith, if◌then◌else◌}
+use Rattle.std.proofs.Common.{◌≡◌, ◌≢◌, ◌≤◌, ◌<◌, ◌+◌, ◌==◌, ◌^◌, ◌++◌, ◌∷◌, [], ℕ, Bool, true, false, true≢false, List, map, length, get_or, Some, None, Option, Vec, Global, refl, ap, ◌∙◌, sym, subst, arith, if◌then◌else◌}
 use Rattle.std.specs.Prelude.{not, is_some, IsSome, IsSomeAnd, IfSome}
 use Rattle.std.specs.List.{AllByRecursion}
 use Rattle.std.proofs.lemmas.Bool.{eq-eqb}
@@ -20,7 +20,7 @@ use Rattle.seg_merge.specs.Merging.{IsMergedOf}
 use Rattle.index_primary.specs.declared.parts.PrimaryParts.{PrimaryParts}
 use Rattle.index_primary.specs.declared.states.Merging.{Merging}
 use Rattle.index_primary.specs.declared.states.Out.{Out}
-use Rattle.index_primary.specs.Merges.{merge_of, merge_loose}
+use Rattle.index_primary.specs.Merges.{merge_of, merge_loose, merge_inputs, merges_with}
 use Rattle.index_primary.specs.Written.{names_of}
 use Rattle.index_primary.specs.Primary.{publish_loose, loose_of}
 use Rattle.index_primary.proofs.MergeLists.{loose_with}
@@ -74,9 +74,24 @@ use Rattle.cluster_merges.specs.Sending.{spread_to, MaySendAll, SendsAll}
 use Rattle.cluster_merges.proofs.MaySending.{job_apart, pending_apart, copies_apart, merged_small, merged_lasts, merged_means, others_apart}
 use Rattle.cluster_merges.proofs.ReadyFiles.{shows_written, written_low, written_more, written_outs}
 use Rattle.cluster_merges.proofs.ReplicaCount.{few_replicas}
+use Rattle.segment_steps.specs.Starting.{size_by}
+use Rattle.cluster_merges.specs.MergesKept.{TellsAll, TellsBuilt}
+use Rattle.cluster_merges.specs.SentTold.{TellsSends}
+use Rattle.cluster_merges.proofs.KeptMerges.{primary_all}
+use Rattle.cluster_merges.proofs.SentTold.{told_before}
 use Rattle.cluster_merges.proofs.SendLoop.{spread_with, is_spread}
 use Rattle.cluster_merges.proofs.SendSteps.{begun_all}
 use Rattle.cluster_merges.proofs.WrittenStand.{stand_written}
+
+-- the inputs of merges are those of before where one is written
+inputs_with : (merged : Merged) (names : List Name) (ms : List Merging) → merge_inputs (merges_with merged names ms) ≡ merge_inputs ms
+inputs_with merged names [] = refl
+inputs_with merged names (m ∷ ms) = by (m.task.seg.0 == merged.files.seg.0) (inputs_with merged names ms)
+  where
+    by : (t : Bool) → merge_inputs (merges_with merged names ms) ≡ merge_inputs ms
+        → merge_inputs (if t then record m { merged = Some merged; names = names } ∷ ms else m ∷ merges_with merged names ms) ≡ merge_inputs (m ∷ ms)
+    by true rest = refl
+    by false rest = ap (λ (l : List SegNo). m.inputs ++ l) rest
 
 -- ---- a merge of which nothing is written
 
@@ -289,6 +304,15 @@ module _ {D : Type 0} (cells : D → Cells) (b : Sheet) (board : Board) (old : L
           pub sent_count : FilesLast → length places ≡ b.nodes
           sent_count lasting = (sends.shown b (ap (λ (c : CopyState). c.primary_gen.0) copied ∙ generation) (λ k d within. (are.each k d within).0) (written_all lasting)).0.count
 
+          -- the primary tells the same
+          primary_same : TellsAll old new
+          primary_same = primary_all p.0 s old new moved.at moved.moves (ap (λ (z : PrimaryParts D). z.commits) moved.step.others)
+              ((λ i. map (size_by (merge_inputs ((ap (λ (z : PrimaryParts D). z.merges) moved.step.others) i))) ((ap (λ (z : PrimaryParts D). z.infos.segs) moved.step.others) i))
+              ∙ ap (λ (l : List SegNo). map (size_by l) q.infos.segs) (ap merge_inputs moved.step.merges.merges ∙ inputs_with merged (moved.step.merges.m.names ++ names_of merged.files.files) q.merges))
+
+          sends_told : FilesLast → TellsSends b.log copy sent old places
+          sends_told lasting = told_before b.log copy sent old new places primary_same (sends.told b (ap (λ (c : CopyState). c.primary_gen.0) copied ∙ generation) (λ k d within. (are.each k d within).0) (written_all lasting))
+
           pub as_many : length sent ≡ length nodes
           as_many = sym (length-map sent (λ (x : Sent). x.node)) ∙ ap length sends.to
 
@@ -320,6 +344,13 @@ module _ {D : Type 0} (cells : D → Cells) (b : Sheet) (board : Board) (old : L
             ended_posted_are : ended.posted ≡ (board.posted ++ posts_of seg line sent) ++ post_after seg line sent
             ended_posted_are = ended_posted ∙ (done_posted ∙ (ap (λ (o : Option Spread). (last.posted ++ posts_of seg line (sent_left o)) ++ post_after seg line (sent_left o)) sent_at
                 ∙ ap (λ (l : List Posted). (l ++ posts_of seg line sent) ++ post_after seg line sent) (sends.posted ∙ posted)))
+
+            -- what callers are told of it
+            pub built_told : FilesLast → TellsBuilt b.log (spread_at (open_merge seg.0 ended.rows)) old places
+            built_told lasting = subst (λ (o : Option Spread). TellsBuilt b.log o old places)
+                (sym (ap (λ (l : List OpenMerge). spread_at (open_merge seg.0 l)) ended_rows_are ∙ (ap spread_at (open_with board.rows seg.0 (Some full) row.row row.there seg.0)
+                ∙ ap (λ (t : Bool). spread_at (if t then Some (record row.row { spread = Some full }) else open_merge seg.0 board.rows)) (eq-eqb seg.0 seg.0 refl))))
+                (sends_told lasting)
 
             -- what the call makes of it
             pub writes_merge : WritesBehind at line seg by olds news b b3 board ended

@@ -1,7 +1,7 @@
 -- Copies of a merged segment that begin at one replica after the other.
 use Rattle.std.proofs.Common.{◌≡◌, ◌≤◌, ◌<◌, ◌+◌, ◌==◌, ℕ, Bool, false, List, [], ◌∷◌, ◌++◌, map, Some, Option, length, take, get_or, refl, ap, ◌∙◌, sym, subst, arith, if◌then◌else◌}
 use Rattle.std.specs.Prelude.{IsSome, is_some, IsSomeAnd}
-use Rattle.std.specs.List.{All}
+use Rattle.std.specs.List.{All, AllByRecursion}
 use Rattle.std.proofs.lemmas.Bool.{ne_eqb}
 use Rattle.std.proofs.lemmas.List.{map-append, get_or_default, take_all, take_more}
 use Rattle.nrt_base.specs.declared.numbers.NodeNo.{NodeNo}
@@ -22,10 +22,15 @@ use Rattle.cluster_nodes.specs.Places.{place_of}
 use Rattle.cluster_nodes.specs.JobChanges.{HasReplica}
 use Rattle.node_merges.specs.MergeChanges.{MaySend}
 use Rattle.node_merges.specs.MergePlaces.{IsReplicaIn}
+use Rattle.cluster_nodes.specs.Outs.{jobs_like}
+use Rattle.cluster_state.specs.Files.{NodeFiles}
 use Rattle.cluster_state.proofs.FileFrames.{other_place}
+use Rattle.cluster_state.proofs.Frames.{some_at}
 use Rattle.cluster_merges.specs.Running.{AllShown}
 use Rattle.cluster_merges.specs.Sending.{spread_to, SendsOne, MaySendAll, SendsAll}
+use Rattle.cluster_merges.specs.SentTold.{TellsSends}
 use Rattle.cluster_merges.proofs.SendSteps.{sent_path}
+use Rattle.cluster_merges.proofs.SentTold.{below_more, none_told, told_next}
 
 -- ---- the row of the merge
 
@@ -75,6 +80,8 @@ module _ {D : Type 0} (cells : D → Cells) where
     pub count : length new ≡ length old
     pub others : (k : ℕ) (d : NodeNo) → i ≤ k → k < length nodes → place_of new (get_or nodes k d).0 ≡ place_of old (get_or nodes k d).0
     pub shown : (b : Sheet) → state.primary_gen.0 ≡ generation_of (printed b.log) → All (λ n. IsNode b.nodes n.0) nodes → AllShown cells b board old → AllShown cells b after new
+    pub below : (d : NodeNo) → i < length nodes → AllByRecursion (λ s. s.node.0 < (get_or nodes i d).0) sent
+    pub told : (b : Sheet) → state.primary_gen.0 ≡ generation_of (printed b.log) → All (λ n. IsNode b.nodes n.0) nodes → AllShown cells b board old → TellsSends b.log state sent old new
 
   module _ (seg : ℕ) (state : CopyState) (nodes : List NodeNo) (board : Board) (old : List (Option (NodePlace D))) (may : MaySendAll state nodes old) (written : spread_at (open_merge seg board.rows) ≡ Some (spread_to state [])) where
     pub none_yet : (sent : List Sent) → sent ≡ [] → SendsUpTo seg state nodes 0 sent board board old old
@@ -86,6 +93,8 @@ module _ {D : Type 0} (cells : D → Cells) where
       count = refl;
       others = λ k d low high. refl;
       shown = λ b generation all_nodes all. all;
+      below = λ d within. subst (λ (l : List Sent). AllByRecursion (λ s. s.node.0 < (get_or nodes 0 d).0) l) (sym none) tt;
+      told = λ b generation all_nodes all. subst (λ (l : List Sent). TellsSends b.log state l old old) (sym none) (none_told b.log state old);
     }
 
     module _ (i : ℕ) (sent : List Sent) (mid : Board) (p : List (Option (NodePlace D))) (was : SendsUpTo seg state nodes i sent board mid old p) where
@@ -120,16 +129,25 @@ module _ {D : Type 0} (cells : D → Cells) where
         others = λ k e low high. other_place n.0 (record { node = Replica sends.moves.replica; held = sends.moves.at.held }) p new (get_or nodes k e).0 sends.moves.moves (apart k e low high) ∙ was.others k e (omega (arith, low)) high;
         shown = λ b generation all_nodes all. sent_path cells b p new mid after seg n one.job state sends.moves.at.parts sends.moves.replica sends.moves.at.held sends.moves.moves (subst (λ (m : NodeNo). IsNode b.nodes m.0) (sym is) (all_nodes i d within))
             sends.moves.at.there sends.moves.step generation (subst (λ (o : Option Spread). IsSomeAnd o (λ z. (z.state ≡ state) × (z.all ≡ false))) (sym row_there) (refl, refl)) sends.rows sends.posted sends.counts (was.shown b generation all_nodes all);
+        below = λ e high. subst (λ (l : List Sent). AllByRecursion (λ s. s.node.0 < (get_or nodes (i + 1) e).0) l) (sym pushed) (below_more sent one n.0 (get_or nodes (i + 1) e).0 low_all (ap (λ (m : NodeNo). m.0) sends.node) (less (i + 1) e (omega arith) high));
+        told = λ b generation all_nodes all. subst (λ (l : List Sent). TellsSends b.log state l old new) (sym pushed)
+            (told_next cells all.1.source b.log state sent one old p new n.0 sends.moves.at.parts sends.moves.replica sends.moves.at.held sends.moves.moves sends.moves.at.there sends.moves.step (ap (λ (m : NodeNo). m.0) sends.node) same low_all
+            (some_at (λ z. NodeFiles all.1.source cells b.log (λ o. jobs_like old o b.nodes) n.0 z.node) (place_of old n.0) (record { node = Replica sends.moves.at.parts; held = sends.moves.at.held }) (sym same ∙ sends.moves.at.there)
+            (all.1.each n.0 (subst (λ (m : NodeNo). IsNode b.nodes m.0) (sym is) (all_nodes i d within)))).job
+            generation (was.told b generation all_nodes all));
       }
         where
-          apart : (k : ℕ) (e : NodeNo) → i + 1 ≤ k → k < length nodes → (n.0 == (get_or nodes k e).0) ≡ false
-          apart k e low high = ne_eqb n.0 (get_or nodes k e).0 (λ same. absurd (omega (arith, less, same)))
-            where
-              first : n ≡ get_or nodes i e
-              first = is ∙ get_or_default nodes i d e within
+          same : place_of p n.0 ≡ place_of old n.0
+          same = ap (λ (m : NodeNo). place_of p m.0) is ∙ (was.others i d (omega arith) within ∙ ap (λ (m : NodeNo). place_of old m.0) (sym is))
 
-              less : n.0 < (get_or nodes k e).0
-              less = subst (λ (m : NodeNo). m.0 < (get_or nodes k e).0) (sym first) (may.ascending i k e (omega (arith, low)) high)
+          low_all : AllByRecursion (λ s. s.node.0 < n.0) sent
+          low_all = subst (λ (m : NodeNo). AllByRecursion (λ s. s.node.0 < m.0) sent) (sym is) (was.below d within)
+
+          less : (k : ℕ) (e : NodeNo) → i < k → k < length nodes → n.0 < (get_or nodes k e).0
+          less k e low high = subst (λ (m : NodeNo). m.0 < (get_or nodes k e).0) (sym (is ∙ get_or_default nodes i d e within)) (may.ascending i k e low high)
+
+          apart : (k : ℕ) (e : NodeNo) → i + 1 ≤ k → k < length nodes → (n.0 == (get_or nodes k e).0) ≡ false
+          apart k e low high = ne_eqb n.0 (get_or nodes k e).0 (λ same. (let more = less k e (omega (arith, low)) high in absurd (omega (arith, more, same))))
 
       -- all have
       pub sent_last : length nodes ≤ i → SendsAll cells seg state nodes sent board mid old p
@@ -139,4 +157,5 @@ module _ {D : Type 0} (cells : D → Cells) where
         posted = was.posted;
         counts = was.counts;
         shown = was.shown;
+        told = was.told;
       }

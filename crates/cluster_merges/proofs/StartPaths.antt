@@ -1,13 +1,15 @@
 -- A merge that starts, and one that does not, in the terms of the call.
-use Rattle.std.proofs.Common.{◌≡◌, ◌≢◌, ◌≤◌, ◌<◌, ◌+◌, ◌==◌, ◌++◌, ℕ, Bool, true, false, List, [], ◌∷◌, take, drop, map, Some, None, Option, Ok, Err, Result, refl, ap, ◌∙◌, sym, subst, arith}
+use Rattle.std.proofs.Common.{◌≡◌, ◌≢◌, ◌≤◌, ◌<◌, ◌==◌, ◌++◌, ℕ, Bool, true, false, List, [], ◌∷◌, take, drop, map, Some, None, Option, Ok, Err, Result, refl, ap, ◌∙◌, sym, subst, arith}
 use Rattle.std.specs.Prelude.{IfSome, IfOk}
 use Rattle.std.proofs.lemmas.Bool.{eq-eqb}
 use Rattle.std.proofs.lemmas.List.{length-map}
+use Rattle.std.proofs.lemmas.Slice.Zip.{AllZip-long}
 use Rattle.nrt_base.specs.SegNumbers.{segment_number, segments_of_generation}
 use Rattle.nrt_base.specs.declared.numbers.At.{At}
 use Rattle.nrt_base.specs.declared.numbers.NodeNo.{NodeNo}
 use Rattle.nrt_base.specs.declared.numbers.SegNo.{SegNo}
 use Rattle.disk_model.specs.Disk.{Name, Cells, reads_of}
+use Rattle.seg_reader.specs.Stands.{IsSegmentIn}
 use Rattle.seg_reader.specs.Shown.{Shown}
 use Rattle.seg_merge.specs.declared.task.MergeTask.{MergeTask}
 use Rattle.merge_choice.specs.Choice.{IsClass, IsFirstRange, HasNoRange}
@@ -57,11 +59,13 @@ use Rattle.cluster_state.proofs.MergingStill.{primary_keeps, one_keeps, stand_sa
 use Rattle.node_merges.specs.MergeChanges.{AsksMerge}
 use Rattle.node_merges.specs.MergePlaces.{MovesPrimary, AreSizesAt}
 use Rattle.cluster_merges.specs.MergePaths.{BeginsMerge, StartsMergeFor}
+use Rattle.cluster_merges.specs.MergeSizes.{without_range}
 use Rattle.cluster_merges.specs.Running.{AllShown}
 use Rattle.cluster_merges.proofs.BegunShows.{HasStarted, begun_shows, begun_files}
 use Rattle.cluster_merges.proofs.BegunStands.{begun_stands}
 use Rattle.cluster_merges.proofs.FirstSizes.{range_sizes}
 use Rattle.cluster_merges.proofs.InsideSteps.{all_is}
+use Rattle.cluster_merges.proofs.SizesEnded.{started_sizes, sizes_moved}
 use Rattle.cluster_merges.proofs.TaskPaths.{as_before}
 
 -- ---- the call
@@ -232,7 +236,15 @@ module _ {D : Type 0} (cells : D → Cells) (r : Run) (old new : List (Option (N
             asked.moves node0 asked.at.there was.0 here others rows told counts was.2,
       )
 
-      pub begins_merge : {calls1 : List ℕ} {cut1 : Bool} {sizes1 : List (Option ℕ)} {copies1 : List (List MergedCopy)} {jobs1 : List JobFiles} {plans1 : List Plans} {named1 : List (List Name)} → BeginsMerge at factor r (record { ended = false; nodes = b3.nodes; log = b3.log; rest = record { calls_left = calls1; cut = cut1; sizes = sizes1; jobs = jobs1; copies = copies1; tasks = after; plans = plans1; names = named1 } })
+      -- the inputs have no size any more
+      held_sizes : sizes_in new ≡ without_range starts.start.from factor r.rest.sizes
+      held_sizes =
+          (sizes_moved cells b0 b3 old new p was.0 started_all.0 node0 (n3 ∙ (n2 ∙ n1)) primary0 (ap (λ (l : Log). primary_of (printed l)) log_now ∙ primary0) asked).1
+          ∙ (started_sizes cells factor q s task starts asked.step.whole (sym (AllZip-long (IsSegmentIn (reads_of (cells q.dir))) q.infos.segs q.segs shows.whole.writer.stands.each))
+          ∙ ap (λ (l : List (Option ℕ)). without_range starts.start.from factor l) (sym sizes))
+
+      pub begins_merge : {calls1 : List ℕ} {cut1 : Bool} {copies1 : List (List MergedCopy)} {jobs1 : List JobFiles} {plans1 : List Plans} {named1 : List (List Name)} → BeginsMerge at factor r (record { ended = false; nodes = b3.nodes; log = b3.log; rest = record { calls_left = calls1; cut = cut1; sizes = sizes_in new; jobs = jobs1; copies = copies1; tasks = after; plans = plans1; names = named1 } })
+      unfolding takes starts
       begins_merge = record {
         seg = task.seg;
         inputs = task.inputs;
@@ -240,6 +252,7 @@ module _ {D : Type 0} (cells : D → Cells) (r : Run) (old new : List (Option (N
         takes = takes;
         unspent = subst (λ (x : Run). names_drawn (printed x.log) < segments_of_generation) view names;
         few = subst (λ (x : Run). factor ≤ put_publishes (printed x.log)) view few;
+        held = held_sizes;
         begins = record {
           is = record { running = refl; nodes = n3 ∙ (n2 ∙ (n1 ∙ ap (λ (x : Run). x.nodes) view)); log = log_now ∙ (ap (λ (l : List (Option ℕ)). kept (MergeOut at.line task.seg task.inputs l) ∷ shown at (MergingEvent task.seg) ∷ b0.log) (sym sizes) ∙ ap (λ (x : Run). kept (MergeOut at.line task.seg task.inputs r.rest.sizes) ∷ shown at (MergingEvent task.seg) ∷ x.log) view) };
           rows_are = rows ∙ ap (λ (x : Run). x.rest.tasks.rows ++ record { seg = task.seg; line = at.line; spread = None } ∷ []) view;

@@ -30,9 +30,11 @@ use Rattle.cluster_state.specs.DueFaults.{with_due}
 use Rattle.cluster_state.specs.Met.{met_in, with_met, has_risen, failures_by_plan}
 use Rattle.cluster_state.specs.PlansIn.{plans_in}
 use Rattle.cluster_state.specs.Run.{Rest, Run}
+use Rattle.cluster_state.specs.Sizes.{sizes_in}
 use Rattle.cluster_state.specs.GivesUp.{task_met_log}
 use Rattle.cluster_state.proofs.Faulted.{met_has, faulted}
 use Rattle.cluster_state.proofs.MetStands.{met_plans}
+use Rattle.cluster_merges.specs.MergeSizes.{SizesEnd}
 use Rattle.cluster_merges.specs.Running.{AllShown}
 use Rattle.cluster_merges.specs.TaskMet.{mets, behind, EndsMergeOf, GivesUpOf, WritesBehind}
 use Rattle.cluster_merges.specs.MergePaths.{IsMergedOut, begun_log, EndsMerge, GivesUp, CutsOver, EndsBuild, EndsCopyTask, FailsCopy, MeetsFaults}
@@ -97,7 +99,7 @@ module _ {D : Type 0} (planned : D → Plans) (r : Run) {ended : Bool} {left : R
   pub risen_told : (p : NodeNo) → has_risen p.0 1 (mets planned old) (mets planned new) ≡ true → has_risen p.0 1 (map failures_by_plan r.rest.plans) (map failures_by_plan now.plans) ≡ true
   risen_told p is = (λ i. has_risen p.0 1 (sym met_first i) (sym met_second i)) ∙ is
 
-  module _ (b2 : Sheet) (after : Board) (tasks_are : now.tasks ≡ after) (cut_is : now.cut ≡ b2.cut) (at : At) (line : LineNo) (seg : SegNo) (by : Option At) (step : Step) (on : merge_on seg.0 b0.log ≡ Some at) where
+  module _ (b2 : Sheet) (after : Board) (tasks_are : now.tasks ≡ after) (cut_is : now.cut ≡ b2.cut) (at : At) (line : LineNo) (seg : SegNo) (by : Option At) (step : Step) (on : merge_on seg.0 b0.log ≡ Some at) (sizes_were : left.sizes ≡ sizes_in old) (sizes_are : now.sizes ≡ sizes_in new) where
     pub ends_merge : (cut : Bool) → EndsMergeOf planned at line seg by step cut b1 b2 board after old new → EndsMerge line seg by step cut r (record { ended = false; nodes = b2.nodes; log = b2.log; rest = now })
     ends_merge cut e = record {
       at = at;
@@ -112,24 +114,25 @@ module _ {D : Type 0} (planned : D → Plans) (r : Run) {ended : Bool} {left : R
         posted_are = ap (λ (b : Board). b.posted) tasks_are ∙ (e.posted ∙ (ap (λ (b : Board). b.posted) (sym tasks_were) ∙ ap (λ (x : Run). x.rest.tasks.posted) view));
       };
       cut_is = cut_is ∙ (e.behind.cut_is ∙ ap (cut_after cut) (c1 ∙ (sym cut_was ∙ ap (λ (x : Run). x.rest.cut) view)));
+      sizes = subst (λ (z : List (Option ℕ) × List (Option ℕ)). SizesEnd cut z.0 z.1) (λ i. ((sym sizes_were ∙ ap (λ (x : Run). x.rest.sizes) view) i, (sym sizes_are) i)) e.sizes;
     }
 
     pub gives_up : (p : NodeNo) → primary_of (printed r.log) ≡ Some p → GivesUpOf planned p at line seg by step b1 b2 board after old new → GivesUp line seg by step r (record { ended = false; nodes = b2.nodes; log = b2.log; rest = now })
     gives_up p primary e = record { merge = ends_merge false e.merge; disk = record { p = p; primary = primary; risen = risen_told p e.risen } }
 
   -- a merge was cut over, or given up
-  pub cut_so : (b2 : Sheet) (after : Board) (tasks_are : now.tasks ≡ after) (cut_is : now.cut ≡ b2.cut) (at : At) (line : LineNo) (seg : SegNo) (by : Option At) → merge_on seg.0 b0.log ≡ Some at → (p : NodeNo) → primary_of (printed r.log) ≡ Some p → (went : Went (Unit {0}))
+  pub cut_so : left.sizes ≡ sizes_in old → now.sizes ≡ sizes_in new → (b2 : Sheet) (after : Board) (tasks_are : now.tasks ≡ after) (cut_is : now.cut ≡ b2.cut) (at : At) (line : LineNo) (seg : SegNo) (by : Option At) → merge_on seg.0 b0.log ≡ Some at → (p : NodeNo) → primary_of (printed r.log) ≡ Some p → (went : Went (Unit {0}))
       → ByWent (λ done. EndsMergeOf planned at line seg by CutStep true b1 b2 board after old new) (GivesUpOf planned p at line seg by CutStep b1 b2 board after old new) went
       → CutsOver line seg by r (record { ended = false; nodes = b2.nodes; log = b2.log; rest = now })
-  cut_so b2 after tasks_are cut_is at line seg by on p primary (Done x) is = inl (ends_merge b2 after tasks_are cut_is at line seg by CutStep on true is)
-  cut_so b2 after tasks_are cut_is at line seg by on p primary Failed is = inr (gives_up b2 after tasks_are cut_is at line seg by CutStep on p primary is)
+  cut_so sizes_were sizes_are b2 after tasks_are cut_is at line seg by on p primary (Done x) is = inl (ends_merge b2 after tasks_are cut_is at line seg by CutStep on sizes_were sizes_are true is)
+  cut_so sizes_were sizes_are b2 after tasks_are cut_is at line seg by on p primary Failed is = inr (gives_up b2 after tasks_are cut_is at line seg by CutStep on sizes_were sizes_are p primary is)
 
   -- a merge was written, or given up
-  pub built_so : (b2 : Sheet) (after : Board) (tasks_are : now.tasks ≡ after) (cut_is : now.cut ≡ b2.cut) (at : At) (line : LineNo) (seg : SegNo) (by : Option At) → merge_on seg.0 b0.log ≡ Some at → (p : NodeNo) → primary_of (printed r.log) ≡ Some p → (went : Went (Unit {0}))
+  pub built_so : left.sizes ≡ sizes_in old → now.sizes ≡ sizes_in new → (b2 : Sheet) (after : Board) (tasks_are : now.tasks ≡ after) (cut_is : now.cut ≡ b2.cut) (at : At) (line : LineNo) (seg : SegNo) (by : Option At) → merge_on seg.0 b0.log ≡ Some at → (p : NodeNo) → primary_of (printed r.log) ≡ Some p → (went : Went (Unit {0}))
       → ByWent (λ done. WritesBehind at line seg by (mets planned old) (mets planned new) b1 b2 board after) (GivesUpOf planned p at line seg by MergeStep b1 b2 board after old new) went
       → EndsBuild line seg by r (record { ended = false; nodes = b2.nodes; log = b2.log; rest = now }) true
-  built_so b2 after tasks_are cut_is at line seg by on p primary Failed is = inr (gives_up b2 after tasks_are cut_is at line seg by MergeStep on p primary is)
-  built_so b2 after tasks_are cut_is at line seg by on p primary (Done x) is = inl (record {
+  built_so sizes_were sizes_are b2 after tasks_are cut_is at line seg by on p primary Failed is = inr (gives_up b2 after tasks_are cut_is at line seg by MergeStep on sizes_were sizes_are p primary is)
+  built_so sizes_were sizes_are b2 after tasks_are cut_is at line seg by on p primary (Done x) is = inl (record {
     at = at;
     on = ap (λ (x : Run). merge_on seg.0 x.log) (sym view) ∙ on;
     state = is.state;

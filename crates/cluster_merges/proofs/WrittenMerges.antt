@@ -9,7 +9,6 @@ use Rattle.disk_model.proofs.CellLemmas.{same_true}
 use Rattle.file_deleter.specs.Holdings.{count_of, times}
 use Rattle.file_deleter.proofs.NameLemmas.{times-append, among_is, same_self}
 use Rattle.file_names.specs.Names.{part_name_of}
-use Rattle.file_names.specs.declared.composed.SegPart.{SegPart}
 use Rattle.file_names.specs.declared.composed.SegPart.TheVariants.{Docs}
 use Rattle.codec_frame.specs.Bytes.{AreBytes}
 use Rattle.codec_frame.specs.Checking.{HasFooter}

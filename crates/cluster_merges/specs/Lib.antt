@@ -1,7 +1,9 @@
 pub mod CopyTurns
 pub mod MergePaths
 pub mod MergesKept
+pub mod MergeSizes
 pub mod Running
 pub mod Sending
+pub mod SentTold
 pub mod TaskCalls
 pub mod TaskMet

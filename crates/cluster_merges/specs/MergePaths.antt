@@ -36,6 +36,7 @@ use Rattle.cluster_state.specs.DueFaults.{with_due}
 use Rattle.cluster_state.specs.GivesUp.{task_met_log, disk_failed, PrimaryFails}
 use Rattle.cluster_state.specs.Settles.{AreReplicas}
 use Rattle.cluster_state.specs.Merging.{IsFitKind}
+use Rattle.cluster_merges.specs.MergeSizes.{without_range, SizesEnd}
 
 -- the call has ended well, and these are the log, the merges in flight and the posted tasks now
 pub record IsBoard (old new : Run) (now : Log) (rows : List OpenMerge) (posted : List Posted) : Type 0 where
@@ -48,7 +49,8 @@ abbrev pub IsAsBefore : Run → Run → Type 0
 IsAsBefore old new = IsBoard old new old.log old.rest.tasks.rows old.rest.tasks.posted
 
 -- A merge starts into the next segment, of as many neighbours as the factor, the first that can be chosen, and a name was left for it: its inputs stand
--- in the log, with the sizes of which they were chosen, and the task to build it is posted. There are no more of them than publishes had puts.
+-- in the log, with the sizes of which they were chosen, and the task to build it is posted; they have no size any more. There are no more of them
+-- than publishes had puts.
 pub record BeginsMerge (at : At) (factor : ℕ) (old new : Run) : Type 0 where
   pub seg : SegNo
   pub inputs : List Shown
@@ -56,6 +58,7 @@ pub record BeginsMerge (at : At) (factor : ℕ) (old new : Run) : Type 0 where
   pub takes : TakesFirst factor old.rest.sizes inputs
   pub unspent : names_drawn (printed old.log) < segments_of_generation
   pub few : factor ≤ put_publishes (printed old.log)
+  pub held : new.rest.sizes ≡ without_range takes.from factor old.rest.sizes
   pub begins : IsBoard old new (kept (MergeOut at.line seg inputs old.rest.sizes) ∷ shown at (Merging seg) ∷ old.log)
       (old.rest.tasks.rows ++ record { seg = seg; line = at.line; spread = None } ∷ []) (old.rest.tasks.posted ++ posted_merge seg at.line (merge_task seg inputs) ∷ [])
 
@@ -137,6 +140,7 @@ pub record EndsMerge (line : LineNo) (seg : SegNo) (by : Option At) (step : Step
   pub on : merge_on seg.0 old.log ≡ Some at
   pub ends : IsBoard old new (kept (TaskEnd line seg by step true) ∷ kept (MergeEnd seg cut) ∷ task_met_log at old new) (without_merge seg.0 old.rest.tasks.rows) old.rest.tasks.posted
   pub cut_is : new.rest.cut ≡ cut_after cut old.rest.cut
+  pub sizes : SizesEnd cut old.rest.sizes new.rest.sizes
 
 -- a copy has ended, as the disk of the primary or of its node failed
 abbrev pub FailsCopy : LineNo → SegNo → Option At → NodeNo → ℕ → Run → Run → Type 0

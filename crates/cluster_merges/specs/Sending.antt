@@ -14,6 +14,7 @@ use Rattle.cluster_nodes.specs.declared.nodes.NodePlace.{NodePlace}
 use Rattle.node_merges.specs.MergeChanges.{MaySend, SendsMerged}
 use Rattle.node_merges.specs.MergePlaces.{IsReplicaIn, MovesReplica}
 use Rattle.cluster_merges.specs.Running.{AllShown}
+use Rattle.cluster_merges.specs.SentTold.{TellsSends}
 
 -- the files of a merge are written, and these copies of them have begun, which are not all
 abbrev pub spread_to : CopyState → List Sent → Spread
@@ -33,10 +34,12 @@ module _ {D : Type 0} where
     pub each : All (λ n. IsReplicaIn (MaySend state) n.0 places) nodes
     pub ascending : AllPairs (λ m n. m.0 < n.0) nodes
 
-  -- A copy to each of these nodes has begun, in order, and it is noted in the row of its merge. What is true of a cluster that runs is true again.
+  -- A copy to each of these nodes has begun, in order, and it is noted in the row of its merge. What is true of a cluster that runs is true again,
+  -- and callers are told of the copies.
   pub record SendsAll (cells : D → Cells) (seg : ℕ) (state : CopyState) (nodes : List NodeNo) (sent : List Sent) (board after : Board) (old new : List (Option (NodePlace D))) : Type 0 where
     pub to : map (λ s. s.node) sent ≡ nodes
     pub rows : after.rows ≡ with_spread seg (Some (spread_to state sent)) board.rows
     pub posted : after.posted ≡ board.posted
     pub counts : after.counts ≡ board.counts
     pub shown : (b : Sheet) → state.primary_gen.0 ≡ generation_of (printed b.log) → All (λ n. IsNode b.nodes n.0) nodes → AllShown cells b board old → AllShown cells b after new
+    pub told : (b : Sheet) → state.primary_gen.0 ≡ generation_of (printed b.log) → All (λ n. IsNode b.nodes n.0) nodes → AllShown cells b board old → TellsSends b.log state sent old new

@@ -16,7 +16,9 @@ use Rattle.merge_tasks.specs.declared.tasks.Sent.{Sent}
 use Rattle.cluster_nodes.specs.declared.nodes.NodePlace.{NodePlace}
 use Rattle.cluster_state.specs.Met.{met_in, with_met, has_risen}
 use Rattle.cluster_state.specs.Settles.{AreReplicas}
+use Rattle.cluster_state.specs.Sizes.{sizes_in}
 use Rattle.cluster_merges.specs.MergePaths.{begun_log}
+use Rattle.cluster_merges.specs.MergeSizes.{SizesEnd}
 
 -- the ledger behind the faults of disks that a task met of the merge which a line started
 abbrev pub behind : At → List (ℕ × ℕ) → List (ℕ × ℕ) → Sheet → Sheet
@@ -38,6 +40,7 @@ pub record EndsMergeOf {D : Type 0} (planned : D → Plans) (at : At) (line : Li
   pub rows : after.rows ≡ without_merge seg.0 board.rows
   pub posted : after.posted ≡ board.posted
   pub counts : (x : At) → done_under x after.counts ≡ done_under x board.counts + counts_one x by
+  pub sizes : SizesEnd cut (sizes_in old) (sizes_in new)
 
 -- a merge was given up, as the disk of this node failed
 pub record GivesUpOf {D : Type 0} (planned : D → Plans) (p : NodeNo) (at : At) (line : LineNo) (seg : SegNo) (by : Option At) (step : Step) (b now : Sheet) (board after : Board) (old new : List (Option (NodePlace D))) : Type 0 where

@@ -144,7 +144,7 @@ fn settle_copy<D: FaultDir + Drop>(
         (misses_file seg.0 job (place_copies (place_of places.old.items n.0)))
         (job_at n.0 ledger.old.log)) }
     ensures cut { OnOk result (ledger.new.cut ≡ ledger.old.cut) }
-    ensures rest { IfOk result (TellsButEnded n.0 places.old.items places.new.items) }
+    ensures rest { IfOk result (TellsButEnded n.0 job places.old.items places.new.items) }
     ensures err { OnErr result (ledger.new ≡ ledger.old) }
 {
     match settle_in(alloc, places, n, job)? {
@@ -193,7 +193,7 @@ fn hand_file<D: FaultDir + Drop>(
         (misses_file seg.0 job (place_copies (place_of places.old.items n.0)))
         (job_at n.0 ledger.old.log)) }
     ensures cut { OnOk result (ledger.new.cut ≡ ledger.old.cut) }
-    ensures rest { IfOk result (TellsButEnded n.0 places.old.items places.new.items) }
+    ensures rest { IfOk result (TellsButEnded n.0 job places.old.items places.new.items) }
     ensures err { OnErr result (ledger.new ≡ ledger.old) }
 {
     match read_in(places, p, &name)? {
@@ -258,7 +258,7 @@ fn step_copy<D: FaultDir + Drop>(
         (misses_file seg.0 job (place_copies (place_of places.old.items n.0)))
         (job_at n.0 ledger.old.log)) }
     ensures cut { OnOk result (ledger.new.cut ≡ ledger.old.cut) }
-    ensures rest { IfOk result (TellsButEnded n.0 places.old.items places.new.items) }
+    ensures rest { IfOk result (TellsButEnded n.0 job places.old.items places.new.items) }
     ensures err { OnErr result (ledger.new ≡ ledger.old) }
 {
     match step_in(alloc, places, n, job, seg)? {
@@ -298,7 +298,7 @@ pub fn next_merged<D: FaultDir + Drop>(
     ensures ok { IfOk result (TurnsCopy line seg by n job cluster.old cluster.new) }
     ensures turn { IfOk result (IsTurnWhere (misses_at seg.0 n.0 job cluster.old)
         (job_at n.0 cluster.old.log)) }
-    ensures rest { IfOk result (KeepsButEnded n.0 cluster.old cluster.new) }
+    ensures rest { IfOk result (KeepsButEnded n.0 job cluster.old cluster.new) }
     ensures err { OnErr result (IsEnded cluster.old cluster.new) }
 {
     let Some(at) = cluster.ledger.merge_on(seg) else {
@@ -355,7 +355,7 @@ fn take_there<D: FaultDir + Drop>(
         (behind at before.now (mets D.planned places.new.items) ledger.old)
         ledger.new tasks.old tasks.new)) }
     ensures cut { OnOk result (ledger.new.cut ≡ ledger.old.cut) }
-    ensures rest { OnOk result (TellsButCopies n.0 places.old.items places.new.items) }
+    ensures rest { OnOk result (TellsButCopies n.0 job places.old.items places.new.items) }
     ensures err { OnErr result (ledger.new ≡ ledger.old) }
 {
     if !runs_in(places, n, job, seg) {
@@ -394,7 +394,7 @@ pub fn take_merged<D: FaultDir + Drop>(
     requires meta { IsMetaOf part.bytes part.meta }
     ensures ok { IfOk result (ByWent (λ done. MeetsFaults seg cluster.old cluster.new)
         (FailsCopy line seg by n job cluster.old cluster.new)) }
-    ensures rest { OnOk result (KeepsButCopies n.0 cluster.old cluster.new) }
+    ensures rest { OnOk result (KeepsButCopies n.0 job cluster.old cluster.new) }
     ensures err { OnErr result (IsEnded cluster.old cluster.new) }
 {
     cluster.ledger.book().is_legal();
@@ -444,7 +444,7 @@ fn end_there<D: FaultDir + Drop>(
     ensures ok { OnOk result (EndsCopyOf line seg by n job
         (behind at before.now (mets D.planned places.new.items) ledger.old) ledger.new
         tasks.old tasks.new) }
-    ensures rest { OnOk result (TellsButCopies n.0 places.old.items places.new.items) }
+    ensures rest { OnOk result (TellsButCopies n.0 job places.old.items places.new.items) }
     ensures err { OnErr result (ledger.new ≡ ledger.old) }
 {
     drop_in(places, n, job);
@@ -475,7 +475,7 @@ fn lose_there<D: FaultDir + Drop>(
     ensures ok { OnOk result (EndsCopyOf line seg by n job
         (behind at before.now (mets D.planned places.new.items) ledger.old) ledger.new
         tasks.old tasks.new) }
-    ensures rest { OnOk result (TellsButCopies n.0 places.old.items places.new.items) }
+    ensures rest { OnOk result (TellsButCopies n.0 job places.old.items places.new.items) }
     ensures err { OnErr result (ledger.new ≡ ledger.old) }
 {
     if !runs_in(places, n, job, seg) {
@@ -500,7 +500,7 @@ pub fn lose_merged<D: FaultDir + Drop>(
     requires sent { has_copy_task n.0 job
         (spread_at (open_merge seg.0 cluster.old.rest.tasks.rows)) ≡ true }
     ensures ok { OnOk result (EndsCopyTask line seg by n job cluster.old cluster.new) }
-    ensures rest { OnOk result (KeepsButCopies n.0 cluster.old cluster.new) }
+    ensures rest { OnOk result (KeepsButCopies n.0 job cluster.old cluster.new) }
     ensures err { OnErr result (IsEnded cluster.old cluster.new) }
 {
     cluster.ledger.book().is_legal();

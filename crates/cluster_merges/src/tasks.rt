@@ -10,7 +10,7 @@ ghost use Rattle.merge_tasks.specs.Board.{open_merge, is_unwritten};
 ghost use Rattle.cluster_state.specs.DueFaults.{ArrivesBy};
 ghost use Rattle.cluster_state.specs.Run.{IsEnded};
 ghost use Rattle.cluster_merges.specs.MergePaths.{IsMergedOut, EndsBuild, TakesTask};
-ghost use Rattle.cluster_merges.specs.MergesKept.{KeepsButTasks, KeepsButSizes, KeepsButCut, KeepsButCopies, KeepsCopyTurn};
+ghost use Rattle.cluster_merges.specs.MergesKept.{KeepsBuilt, KeepsButTasks, KeepsButSizes, KeepsButCut, KeepsButCopies, KeepsCopyTurn};
 ghost use Rattle.cluster_merges.specs.TaskCalls.{MergeLine, StartsAtPrimary, PrecopyTurns, PartTurns, CutTurns};
 
 use crate::cuts::cut_merge;
@@ -102,6 +102,7 @@ pub fn merge_ready<D: FaultDir + Drop>(
     requires merged { IsMergedOut state.old.log seg merged }
     ensures ok { OnOk result (EndsBuild line seg by state.old state.new
         (is_unwritten (open_merge seg.0 state.old.rest.tasks.rows))) }
+    ensures rest { OnOk result (KeepsBuilt seg state.old state.new) }
     ensures err { OnErr result (IsEnded state.old state.new) }
 {
     if !state.tasks.is_unwritten(seg) {
@@ -127,7 +128,7 @@ pub fn precopy_next<D: FaultDir + Drop>(
     requires running { state.old.ended ≡ false }
     requires node { IsNode state.old.nodes n.0 }
     ensures ok { IfOk result (PrecopyTurns line seg by n job state.old state.new) }
-    ensures rest { IfOk result (KeepsCopyTurn n.0 state.old state.new) }
+    ensures rest { IfOk result (KeepsCopyTurn n.0 job state.old state.new) }
     ensures err { OnErr result (IsEnded state.old state.new) }
 {
     if !state.tasks.has_copy_task(seg, n, job) {
@@ -162,7 +163,7 @@ pub fn precopy_arrived<D: FaultDir + Drop>(
     requires meta { IsMetaOf file.now.source file.now.meta }
     requires arrives { ArrivesBy file.now arrived }
     ensures ok { IfOk result (PartTurns line seg by n job file.now.fate state.old state.new) }
-    ensures rest { OnOk result (KeepsButCopies n.0 state.old state.new) }
+    ensures rest { OnOk result (KeepsButCopies n.0 job state.old state.new) }
     ensures err { OnErr result (IsEnded state.old state.new) }
 {
     if !state.tasks.has_copy_task(seg, n, job) {

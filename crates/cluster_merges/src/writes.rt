@@ -13,6 +13,7 @@ ghost use Rattle.cluster_state.specs.Run.{IsEnded};
 ghost use Rattle.cluster_merges.specs.Running.{AllShown};
 ghost use Rattle.cluster_merges.specs.TaskMet.{mets, WritesBehind, GivesUpOf};
 ghost use Rattle.cluster_merges.specs.MergePaths.{IsMergedOut, EndsBuild, begun_log};
+ghost use Rattle.cluster_merges.specs.MergesKept.{KeepsBuilt, TellsBuilt};
 ghost use Rattle.cluster_merges.specs.Sending.{spread_to, SendsOne, MaySendAll, SendsAll};
 
 use crate::met::end_behind;
@@ -132,6 +133,9 @@ fn ready_there<D: FaultDir + Drop>(
         ledger.old ledger.new tasks.old tasks.new)
         (GivesUpOf D.planned p at line seg by Step.Merge
         ledger.old ledger.new tasks.old tasks.new places.old.items places.new.items)) }
+    ensures rest { OnOk result (TellsBuilt ledger.old.log
+        (spread_at (open_merge seg.0 tasks.new.rows)) places.old.items places.new.items) }
+    ensures cut { OnOk result (ledger.new.cut ≡ ledger.old.cut) }
     ensures err { OnErr result (ledger.new ≡ ledger.old) }
 {
     files_last();
@@ -193,6 +197,7 @@ pub fn ready_merge<D: FaultDir + Drop>(
     requires unwritten { is_unwritten (open_merge seg.0 cluster.old.rest.tasks.rows) ≡ true }
     requires merged { IsMergedOut cluster.old.log seg merged }
     ensures ok { OnOk result (EndsBuild line seg by cluster.old cluster.new true) }
+    ensures rest { OnOk result (KeepsBuilt seg cluster.old cluster.new) }
     ensures err { OnErr result (IsEnded cluster.old cluster.new) }
 {
     let Some(at) = cluster.ledger.merge_on(seg) else {

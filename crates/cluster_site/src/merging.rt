@@ -21,7 +21,7 @@ impl<D: FaultDir + Drop> Site<D> {
     ghost use Rattle.merge_tasks.specs.Board.{open_merge, is_unwritten};
     ghost use Rattle.cluster_state.specs.DueFaults.{ArrivesBy};
     ghost use Rattle.cluster_state.specs.Run.{IsEnded};
-    ghost use Rattle.cluster_core.specs.Given.{KeepsButSizes, KeepsButTasks, KeepsButCut, KeepsCopyTurn, KeepsButCopies, IsMergedOut, EndsBuild, TakesTask, MergeLine, PrecopyTurns, PartTurns, CutTurns, DrainTurns};
+    ghost use Rattle.cluster_core.specs.Given.{KeepsBuilt, KeepsButSizes, KeepsButTasks, KeepsButCut, KeepsCopyTurn, KeepsButCopies, IsMergedOut, EndsBuild, TakesTask, MergeLine, PrecopyTurns, PartTurns, CutTurns, DrainTurns};
     ghost use Rattle.cluster_core.specs.Doing.{IsReplied, IsRepliedAtDone};
     ghost use Rattle.cluster_site.specs.Sites.{DoesAtSite, DoesTaskAtSite};
 
@@ -66,6 +66,7 @@ impl<D: FaultDir + Drop> Site<D> {
         requires merged { IsMergedOut self.old.run.log task.now.seg merged }
         ensures ok { OnOk result (EndsBuild task.now.line task.now.seg task.now.by self.old.run self.new.run
             (is_unwritten (open_merge task.now.seg.0 self.old.run.rest.tasks.rows))) }
+        ensures rest { OnOk result (KeepsBuilt task.now.seg self.old.run self.new.run) }
         ensures err { OnErr result (IsEnded self.old.run self.new.run) }
 
         // what its taker is owed
@@ -86,7 +87,7 @@ impl<D: FaultDir + Drop> Site<D> {
         requires node { IsNode self.old.run.nodes copy.node.0 }
         ensures ok { IfOk result (PrecopyTurns task.now.line task.now.seg task.now.by
             copy.node copy.job self.old.run self.new.run) }
-        ensures rest { IfOk result (KeepsCopyTurn copy.node.0 self.old.run self.new.run) }
+        ensures rest { IfOk result (KeepsCopyTurn copy.node.0 copy.job self.old.run self.new.run) }
         ensures err { OnErr result (IsEnded self.old.run self.new.run) }
 
         // what its taker is owed
@@ -112,7 +113,7 @@ impl<D: FaultDir + Drop> Site<D> {
         requires arrives { ArrivesBy file.now arrived }
         ensures ok { IfOk result (PartTurns task.now.line task.now.seg task.now.by
             copy.node copy.job file.now.fate self.old.run self.new.run) }
-        ensures rest { OnOk result (KeepsButCopies copy.node.0 self.old.run self.new.run) }
+        ensures rest { OnOk result (KeepsButCopies copy.node.0 copy.job self.old.run self.new.run) }
         ensures err { OnErr result (IsEnded self.old.run self.new.run) }
 
         // what its taker is owed

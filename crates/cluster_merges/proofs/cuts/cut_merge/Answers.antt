@@ -1,4 +1,4 @@
-use Rattle.std.proofs.Common.{◌≡◌, ◌≤◌, ◌+◌, ◌*◌, ◌∙◌, ℕ, List, length, true, Some, None, ap, sym, refl, arith}
+use Rattle.std.proofs.Common.{◌≡◌, ◌∙◌, ℕ, Some, None, ap, sym, refl, arith}
 use Rattle.history_rules.specs.Nodes.{IsNode, primary_of}
 use Rattle.history_rules.specs.Lines.{publish_in_flight}
 use Rattle.history_book.specs.Log.{Log, printed}
@@ -9,7 +9,7 @@ use Rattle.cluster_state.proofs.Turning.{running_has}
 use Rattle.cluster_merges.proofs.InsideSteps.{all_is}
 use Rattle.cluster_merges.proofs.CutPaths.{is_on}
 use Rattle.cluster_merges.proofs.TaskBehind.{line_there, cut_so}
-use Rattle.cluster_merges.proofs.KeptMerges.{but_cut}
+use Rattle.cluster_merges.proofs.KeptMerges.{but_cut, cut_rows}
 use Rattle.cluster_merges.proofs.cuts.cut_merge.Goals as goal
 
 pub unreachable-requires : goal.unreachable-requires
@@ -43,7 +43,8 @@ invariant_of-cluster-2 g c = λ running. c.in_ok-cut_there.ensures.shown
 pub returns-clause-ok : goal.returns-clause-ok
 returns-clause-ok g c =
     cut_so g.D.FaultDir.planned c.args.cluster.now c.cluster.inside.ledger c.met_before.new.ledger c.cluster.inside.tasks c.cluster.inside.places.items c.cut_there.new.places.items c.cluster.view_is c.met_before.ensures.log c.met_before.ensures.nodes c.met_before.ensures.cut
-    refl refl refl _ refl c.cut_there.new.ledger c.cut_there.new.tasks refl refl c.in-Some.at c.args.line c.args.seg c.args.by (sym c.merge_on.ensures ∙ c.in-Some.is) c.args.p c.requires.primary _ c.in_ok-cut_there.ensures.ok
+    refl refl refl _ refl refl refl c.cut_there.new.ledger c.cut_there.new.tasks refl refl c.in-Some.at c.args.line c.args.seg c.args.by (sym c.merge_on.ensures ∙ c.in-Some.is) c.args.p c.requires.primary _ c.in_ok-cut_there.ensures.ok
 
 pub returns-clause-rest : goal.returns-clause-rest
-returns-clause-rest g c = but_cut c.args.cluster.now _ _ _ _ _ _ _ _ c.cluster.inside.places.items c.cut_there.new.places.items (ap (λ (x : Run). x.rest) c.cluster.view_is) refl c.in_ok-cut_there.ensures.rest
+returns-clause-rest g c = but_cut c.args.cluster.now _ _ _ _ _ _ _ _ c.cluster.inside.places.items c.cut_there.new.places.items (ap (λ (x : Run). x.rest) c.cluster.view_is) refl
+    (λ same. absurd (cut_rows c.args.line c.args.seg c.args.by c.args.cluster.now _ c.requires.copied (returns-clause-ok g c) same)) c.in_ok-cut_there.ensures.rest

@@ -1,4 +1,4 @@
-use Rattle.std.proofs.Common.{◌≡◌, ◌+◌, ◌∙◌, ℕ, List, length, true, false, Some, ap, sym, subst, refl, arith}
+use Rattle.std.proofs.Common.{◌+◌, ◌∙◌, ℕ, List, true, false, ap, sym, subst}
 use Rattle.history_book.specs.declared.inner.Step.TheVariants.{Cut as CutStep}
 use Rattle.merge_tasks.specs.declared.drains.DrainCount.{DrainCount}
 use Rattle.merge_tasks.specs.Board.{done_under, counts_one}
@@ -8,6 +8,10 @@ use Rattle.cluster_merges.proofs.CutPaths.{has_row, has_spread, is_on, may_cut, 
 use Rattle.cluster_merges.proofs.TaskBehind.{primary_behind, calm_behind, all_behind, as_many_met, went_done, went_failed}
 use Rattle.index_primary.specs.declared.parts.PrimaryParts.{PrimaryParts}
 use Rattle.cluster_merges.proofs.KeptMerges.{primary_told}
+use Rattle.history_rules.specs.Nodes.{primary_of}
+use Rattle.history_book.specs.Log.{Log, printed}
+use Rattle.cluster_merges.proofs.SizesCut.{sizes_cut}
+use Rattle.cluster_merges.proofs.SizesEnded.{sizes_given}
 use Rattle.cluster_merges.proofs.cuts.cut_there.Goals as goal
 
 pub close-requires : goal.close-requires
@@ -49,6 +53,8 @@ returns-in-Done-clause-ok g c = record {
   rows = c.count.ensures.rows ∙ c.close.ensures.rows;
   posted = c.count.ensures.posted ∙ c.close.ensures.posted;
   counts = (λ x. c.in_ok-count.ensures.counts x ∙ ap (λ (l : List DrainCount). done_under x l + counts_one x c.args.by) c.close.ensures.counts);
+  sizes = sizes_cut g.D.Dir.cells c.args.ledger.now c.end_behind.new.ledger c.args.places.now.items c.cut_in.new.places.items c.args.p c.requires.shown.0 (returns-in-Done-clause-shown g c).0 c.requires.node c.in_ok-end_behind-in-Done.ensures.ok.nodes c.requires.primary
+      (ap (λ (l : Log). primary_of (printed l)) c.in_ok-end_behind-in-Done.ensures.ok.log ∙ primary_behind c.args.at c.args.before.now (mets g.D.FaultDir.planned c.cut_in.new.places.items) c.args.ledger.now.log c.args.p c.requires.primary) c.args.seg _ (went_done _ _ c.in_ok-went.went _ c.in-Done.is c.in_ok-went.ensures);
 }
 
 -- ---- it was given up
@@ -82,6 +88,8 @@ returns-clause-ok g c = record {
     rows = c.count.ensures.rows ∙ c.close.ensures.rows;
     posted = c.count.ensures.posted ∙ c.close.ensures.posted;
     counts = (λ x. c.in_ok-count.ensures.counts x ∙ ap (λ (l : List DrainCount). done_under x l + counts_one x c.args.by) c.close.ensures.counts);
+    sizes = sizes_given g.D.Dir.cells c.args.ledger.now c.end_behind-in-Failed.new.ledger c.args.places.now.items c.cut_in.new.places.items c.args.p c.requires.shown.0 (returns-clause-shown g c).0 c.requires.node c.in_ok-end_behind-in-Failed.ensures.ok.nodes c.requires.primary
+        (ap (λ (l : Log). primary_of (printed l)) c.in_ok-end_behind-in-Failed.ensures.ok.log ∙ primary_behind c.args.at c.args.before.now (mets g.D.FaultDir.planned c.cut_in.new.places.items) c.args.ledger.now.log c.args.p c.requires.primary) c.args.seg _ (went_failed _ _ c.in_ok-went.went c.in-Failed.is c.in_ok-went.ensures);
   };
   risen = ap (λ (olds : List (ℕ × ℕ)). has_risen c.args.p.0 1 olds (mets g.D.FaultDir.planned c.cut_in.new.places.items)) (sym c.requires.before) ∙ (sym c.has_risen.ensures ∙ c.if-not-has_risen.false);
 }

@@ -37,4 +37,4 @@ returns-clause-ok g c = drained_now c.args.cluster.now c.cluster.inside.ledger c
     c.show.new.self c.drain.new.self c.args.at c.args.done c.args.most _ _ _ c.show.ensures.log c.show.ensures.nodes c.drain.ensures.rows c.drain.ensures.posted
 
 pub returns-clause-rest : goal.returns-clause-rest
-returns-clause-rest g c = but_tasks c.args.cluster.now _ _ _ _ _ _ _ _ c.cluster.inside.places.items c.cluster.inside.places.items (ap (λ (x : Run). x.rest) c.cluster.view_is) refl (c.show.ensures.cut ∙ c.in_ok-reserve.ensures.cut) (same_tell c.cluster.inside.places.items)
+returns-clause-rest g c = but_tasks c.args.cluster.now _ _ _ _ _ _ _ _ c.cluster.inside.places.items c.cluster.inside.places.items (ap (λ (x : Run). x.rest) c.cluster.view_is) refl (c.show.ensures.cut ∙ c.in_ok-reserve.ensures.cut) refl refl (same_tell c.cluster.inside.places.items)

@@ -1,4 +1,4 @@
-use Rattle.std.proofs.Common.{◌∷◌, List, map, ap, ◌∙◌, sym}
+use Rattle.std.proofs.Common.{◌∷◌, ap, ◌∙◌, sym}
 use Rattle.std.specs.Prelude.{true}
 use Rattle.history_rules.specs.Lines.{publish_in_flight}
 use Rattle.history_book.specs.Log.{Log, printed, kept}

@@ -7,7 +7,8 @@ use Rattle.cluster_merges.proofs.TaskBehind.{as_many_met}
 use Rattle.replica_node.specs.declared.parts.ReplicaParts.{ReplicaParts}
 use Rattle.cluster_state.specs.CallsLeft.{stage_calls}
 use Rattle.cluster_state.specs.JobsIn.{job_files}
-use Rattle.cluster_merges.proofs.KeptMerges.{replica_told}
+use Rattle.replica_node.specs.declared.merges.MergeCopies.{MergeCopies}
+use Rattle.cluster_merges.proofs.KeptMerges.{but_ended_copy, replica_told}
 use Rattle.cluster_merges.proofs.precopies.end_there.Goals as goal
 
 pub drop_in-requires : goal.drop_in-requires
@@ -28,4 +29,5 @@ returns-clause-shown g c =
     c.args.at c.args.before.now (mets g.D.FaultDir.planned c.drop_in.new.places.items) c.end_task.new.ledger c.end_task.new.tasks c.args.line c.args.by c.in_ok-end_task.ensures.ok c.requires.runs c.drop_in.new.places.items c.drop_in.ensures
 
 pub returns-clause-rest : goal.returns-clause-rest
-returns-clause-rest g c = replica_told c.args.n.0 c.drop_in.ensures.replica c.args.places.now.items c.drop_in.new.places.items c.drop_in.ensures.at c.drop_in.ensures.moves (ap (λ (z : ReplicaParts _). stage_calls z.commits.stage) c.drop_in.ensures.step.others) (ap (λ (z : ReplicaParts _). job_files z.seen.0 z.job) c.drop_in.ensures.step.others)
+returns-clause-rest g c = replica_told c.args.n.0 c.args.job c.drop_in.ensures.replica c.args.places.now.items c.drop_in.new.places.items c.drop_in.ensures.at c.drop_in.ensures.moves (ap (λ (z : ReplicaParts _). stage_calls z.commits.stage) c.drop_in.ensures.step.others) (ap (λ (z : ReplicaParts _). job_files z.seen.0 z.job) c.drop_in.ensures.step.others)
+    (but_ended_copy c.args.job c.drop_in.ensures.at.parts c.drop_in.ensures.replica (ap (λ (m : MergeCopies). m.running) c.drop_in.ensures.step.copies))

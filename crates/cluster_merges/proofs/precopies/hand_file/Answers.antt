@@ -19,7 +19,8 @@ use Rattle.cluster_merges.proofs.TaskBehind.{primary_behind, all_behind, as_many
 use Rattle.replica_node.specs.declared.parts.ReplicaParts.{ReplicaParts}
 use Rattle.cluster_state.specs.CallsLeft.{stage_calls}
 use Rattle.cluster_state.specs.JobsIn.{job_files}
-use Rattle.cluster_merges.proofs.KeptMerges.{replica_told, primary_all, told_then}
+use Rattle.replica_node.specs.declared.merges.MergeCopies.{MergeCopies}
+use Rattle.cluster_merges.proofs.KeptMerges.{but_ended_copy, replica_told, primary_all, told_then}
 use Rattle.index_primary.specs.declared.parts.PrimaryParts.{PrimaryParts}
 use Rattle.cluster_nodes.specs.Given.{merge_sizes}
 use Rattle.cluster_merges.proofs.precopies.hand_file.Goals as goal
@@ -102,5 +103,6 @@ pub returns-in_ok-fail_task-in-Failed-clause-cut : goal.returns-in_ok-fail_task-
 returns-in_ok-fail_task-in-Failed-clause-cut g c = c.in_ok-fail_task-in-Failed.ensures.ok.ends.cut
 
 pub returns-in_ok-fail_task-in-Failed-clause-rest : goal.returns-in_ok-fail_task-in-Failed-clause-rest
-returns-in_ok-fail_task-in-Failed-clause-rest g c = told_then c.args.n.0 c.args.places.now.items c.read_in.new.places.items c.drop_in.new.places.items (primary_all c.args.p.0 (went_failed _ _ _ c.in-Failed.is c.in_ok-source.ensures.went).primary c.args.places.now.items c.read_in.new.places.items (went_failed _ _ _ c.in-Failed.is c.in_ok-source.ensures.went).at (went_failed _ _ _ c.in-Failed.is c.in_ok-source.ensures.went).moves (ap (λ (z : PrimaryParts _). z.commits) (went_failed _ _ _ c.in-Failed.is c.in_ok-source.ensures.went).alters.others) (ap (λ (z : PrimaryParts _). merge_sizes z) (went_failed _ _ _ c.in-Failed.is c.in_ok-source.ensures.went).alters.others))
-    (replica_told c.args.n.0 c.drop_in.ensures.replica c.read_in.new.places.items c.drop_in.new.places.items c.drop_in.ensures.at c.drop_in.ensures.moves (ap (λ (z : ReplicaParts _). stage_calls z.commits.stage) c.drop_in.ensures.step.others) (ap (λ (z : ReplicaParts _). job_files z.seen.0 z.job) c.drop_in.ensures.step.others))
+returns-in_ok-fail_task-in-Failed-clause-rest g c = told_then c.args.n.0 c.args.job c.args.places.now.items c.read_in.new.places.items c.drop_in.new.places.items (primary_all c.args.p.0 (went_failed _ _ _ c.in-Failed.is c.in_ok-source.ensures.went).primary c.args.places.now.items c.read_in.new.places.items (went_failed _ _ _ c.in-Failed.is c.in_ok-source.ensures.went).at (went_failed _ _ _ c.in-Failed.is c.in_ok-source.ensures.went).moves (ap (λ (z : PrimaryParts _). z.commits) (went_failed _ _ _ c.in-Failed.is c.in_ok-source.ensures.went).alters.others) (ap (λ (z : PrimaryParts _). merge_sizes z) (went_failed _ _ _ c.in-Failed.is c.in_ok-source.ensures.went).alters.others))
+    (replica_told c.args.n.0 c.args.job c.drop_in.ensures.replica c.read_in.new.places.items c.drop_in.new.places.items c.drop_in.ensures.at c.drop_in.ensures.moves (ap (λ (z : ReplicaParts _). stage_calls z.commits.stage) c.drop_in.ensures.step.others) (ap (λ (z : ReplicaParts _). job_files z.seen.0 z.job) c.drop_in.ensures.step.others)
+    (but_ended_copy c.args.job c.drop_in.ensures.at.parts c.drop_in.ensures.replica (ap (λ (m : MergeCopies). m.running) c.drop_in.ensures.step.copies)))

@@ -46,4 +46,4 @@ returns-clause-ok g c =
     (c.as_slice.ensures.value ∙ c.in_ok-before.ensures.met) c.in_ok-lose_there.ensures.ok)
 
 pub returns-clause-rest : goal.returns-clause-rest
-returns-clause-rest g c = but_copies c.args.cluster.now _ _ _ _ _ _ _ _ c.cluster.inside.places.items c.lose_there.new.places.items (ap (λ (x : Run). x.rest) c.cluster.view_is) refl (c.in_ok-lose_there.ensures.ok.cut ∙ c.met_before.ensures.cut) c.args.n.0 c.in_ok-lose_there.ensures.rest
+returns-clause-rest g c = but_copies c.args.cluster.now _ _ _ _ _ _ _ _ c.cluster.inside.places.items c.lose_there.new.places.items (ap (λ (x : Run). x.rest) c.cluster.view_is) refl (c.in_ok-lose_there.ensures.ok.cut ∙ c.met_before.ensures.cut) c.args.n.0 c.args.job c.in_ok-lose_there.ensures.rest

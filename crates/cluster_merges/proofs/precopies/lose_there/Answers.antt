@@ -27,4 +27,4 @@ pub end_there-requires-clause-runs : goal.end_there-requires-clause-runs
 end_there-requires-clause-runs g c = c.runs_in.ensures.runs c.if-not-runs_in.false
 
 pub returns-then-not-runs_in-clause-rest : goal.returns-then-not-runs_in-clause-rest
-returns-then-not-runs_in-clause-rest g c = all_but c.args.n.0 c.args.places.now.items c.args.places.now.items (same_tell c.args.places.now.items)
+returns-then-not-runs_in-clause-rest g c = all_but c.args.n.0 c.args.job c.args.places.now.items c.args.places.now.items (same_tell c.args.places.now.items)

@@ -10,7 +10,8 @@ use Rattle.cluster_merges.proofs.TaskBehind.{primary_behind, all_behind, as_many
 use Rattle.replica_node.specs.declared.parts.ReplicaParts.{ReplicaParts}
 use Rattle.cluster_state.specs.CallsLeft.{stage_calls}
 use Rattle.cluster_state.specs.JobsIn.{job_files}
-use Rattle.cluster_merges.proofs.KeptMerges.{replica_told}
+use Rattle.replica_node.specs.declared.merges.MergeCopies.{MergeCopies}
+use Rattle.cluster_merges.proofs.KeptMerges.{replica_told, but_ended_copy, but_settled}
 use Rattle.cluster_merges.proofs.precopies.settle_copy.Goals as goal
 
 pub settle_in-requires : goal.settle_in-requires
@@ -59,10 +60,12 @@ pub returns-in_ok-end_task-in-Done-clause-cut : goal.returns-in_ok-end_task-in-D
 returns-in_ok-end_task-in-Done-clause-cut g c = c.in_ok-end_task-in-Done.ensures.ok.cut
 
 pub returns-in_ok-end_task-in-Done-clause-rest : goal.returns-in_ok-end_task-in-Done-clause-rest
-returns-in_ok-end_task-in-Done-clause-rest g c = replica_told c.args.n.0 (went_done _ _ _ _ c.in-Done.is c.in_ok-settle_in.ensures).replica c.args.places.now.items c.settle_in.new.places.items (went_done _ _ _ _ c.in-Done.is c.in_ok-settle_in.ensures).at (went_done _ _ _ _ c.in-Done.is c.in_ok-settle_in.ensures).moves (ap (λ (z : ReplicaParts _). stage_calls z.commits.stage) (went_done _ _ _ _ c.in-Done.is c.in_ok-settle_in.ensures).step.others) (ap (λ (z : ReplicaParts _). job_files z.seen.0 z.job) (went_done _ _ _ _ c.in-Done.is c.in_ok-settle_in.ensures).step.others)
+returns-in_ok-end_task-in-Done-clause-rest g c = replica_told c.args.n.0 c.args.job (went_done _ _ _ _ c.in-Done.is c.in_ok-settle_in.ensures).replica c.args.places.now.items c.settle_in.new.places.items (went_done _ _ _ _ c.in-Done.is c.in_ok-settle_in.ensures).at (went_done _ _ _ _ c.in-Done.is c.in_ok-settle_in.ensures).moves (ap (λ (z : ReplicaParts _). stage_calls z.commits.stage) (went_done _ _ _ _ c.in-Done.is c.in_ok-settle_in.ensures).step.others) (ap (λ (z : ReplicaParts _). job_files z.seen.0 z.job) (went_done _ _ _ _ c.in-Done.is c.in_ok-settle_in.ensures).step.others)
+    (but_settled g.D.Dir.cells c.args.job (went_done _ _ _ _ c.in-Done.is c.in_ok-settle_in.ensures).at.parts (went_done _ _ _ _ c.in-Done.is c.in_ok-settle_in.ensures).replica ((may_settle g.D.Dir.cells c.args.ledger.now c.args.tasks.now c.args.places.now.items c.requires.shown c.args.n.0 c.args.seg.0 c.args.job c.requires.node c.requires.step).may (went_done _ _ _ _ c.in-Done.is c.in_ok-settle_in.ensures).at.parts (went_done _ _ _ _ c.in-Done.is c.in_ok-settle_in.ensures).at.held (went_done _ _ _ _ c.in-Done.is c.in_ok-settle_in.ensures).at.there).runs (went_done _ _ _ _ c.in-Done.is c.in_ok-settle_in.ensures).step)
 
 pub returns-in_ok-fail_task-in-Failed-clause-cut : goal.returns-in_ok-fail_task-in-Failed-clause-cut
 returns-in_ok-fail_task-in-Failed-clause-cut g c = c.in_ok-fail_task-in-Failed.ensures.ok.ends.cut
 
 pub returns-in_ok-fail_task-in-Failed-clause-rest : goal.returns-in_ok-fail_task-in-Failed-clause-rest
-returns-in_ok-fail_task-in-Failed-clause-rest g c = replica_told c.args.n.0 (went_failed _ _ _ c.in-Failed.is c.in_ok-settle_in.ensures).replica c.args.places.now.items c.settle_in.new.places.items (went_failed _ _ _ c.in-Failed.is c.in_ok-settle_in.ensures).at (went_failed _ _ _ c.in-Failed.is c.in_ok-settle_in.ensures).moves (ap (λ (z : ReplicaParts _). stage_calls z.commits.stage) (went_failed _ _ _ c.in-Failed.is c.in_ok-settle_in.ensures).step.others) (ap (λ (z : ReplicaParts _). job_files z.seen.0 z.job) (went_failed _ _ _ c.in-Failed.is c.in_ok-settle_in.ensures).step.others)
+returns-in_ok-fail_task-in-Failed-clause-rest g c = replica_told c.args.n.0 c.args.job (went_failed _ _ _ c.in-Failed.is c.in_ok-settle_in.ensures).replica c.args.places.now.items c.settle_in.new.places.items (went_failed _ _ _ c.in-Failed.is c.in_ok-settle_in.ensures).at (went_failed _ _ _ c.in-Failed.is c.in_ok-settle_in.ensures).moves (ap (λ (z : ReplicaParts _). stage_calls z.commits.stage) (went_failed _ _ _ c.in-Failed.is c.in_ok-settle_in.ensures).step.others) (ap (λ (z : ReplicaParts _). job_files z.seen.0 z.job) (went_failed _ _ _ c.in-Failed.is c.in_ok-settle_in.ensures).step.others)
+    (but_ended_copy c.args.job (went_failed _ _ _ c.in-Failed.is c.in_ok-settle_in.ensures).at.parts (went_failed _ _ _ c.in-Failed.is c.in_ok-settle_in.ensures).replica (ap (λ (m : MergeCopies). m.running) (went_failed _ _ _ c.in-Failed.is c.in_ok-settle_in.ensures).step.copies))

@@ -64,4 +64,4 @@ pub returns-in_ok-end_task-in-Gone-clause-cut : goal.returns-in_ok-end_task-in-G
 returns-in_ok-end_task-in-Gone-clause-cut g c = c.in_ok-end_task-in-Gone.ensures.ok.cut
 
 pub returns-in_ok-end_task-in-Gone-clause-rest : goal.returns-in_ok-end_task-in-Gone-clause-rest
-returns-in_ok-end_task-in-Gone-clause-rest g c = all_but c.args.n.0 c.args.places.now.items c.args.places.now.items (same_tell c.args.places.now.items)
+returns-in_ok-end_task-in-Gone-clause-rest g c = all_but c.args.n.0 c.args.job c.args.places.now.items c.args.places.now.items (same_tell c.args.places.now.items)

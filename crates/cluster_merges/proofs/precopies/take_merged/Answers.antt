@@ -1,7 +1,6 @@
-use Rattle.std.proofs.Common.{◌≡◌, ◌∙◌, ℕ, List, true, Some, ap, sym, subst, refl, arith}
+use Rattle.std.proofs.Common.{◌≡◌, ◌∙◌, ℕ, List, Some, ap, sym, subst, refl, arith}
 use Rattle.history_rules.specs.Nodes.{IsNode}
-use Rattle.history_rules.specs.Legal.{IsLegalPast}
-use Rattle.history_book.specs.Log.{Log, printed}
+use Rattle.history_book.specs.Log.{Log}
 use Rattle.merge_tasks.specs.TaskLog.{carried_out}
 use Rattle.merge_tasks.specs.Board.{open_merge, spread_at, has_copy_task}
 use Rattle.cluster_nodes.specs.Went.{ByWent}
@@ -54,4 +53,4 @@ returns-clause-ok g c =
     (behind c.in-Some.at olds (mets g.D.FaultDir.planned c.take_there.new.places.items) c.met_before.new.ledger) c.take_there.new.ledger c.cluster.inside.tasks c.take_there.new.tasks) c.in_ok-went.went) (c.as_slice.ensures.value ∙ c.in_ok-before.ensures.met) c.in_ok-went.ensures.ok)
 
 pub returns-clause-rest : goal.returns-clause-rest
-returns-clause-rest g c = but_copies c.args.cluster.now _ _ _ _ _ _ _ _ c.cluster.inside.places.items c.take_there.new.places.items (ap (λ (x : Run). x.rest) c.cluster.view_is) refl (c.in_ok-went.ensures.cut ∙ c.met_before.ensures.cut) c.args.n.0 c.in_ok-went.ensures.rest
+returns-clause-rest g c = but_copies c.args.cluster.now _ _ _ _ _ _ _ _ c.cluster.inside.places.items c.take_there.new.places.items (ap (λ (x : Run). x.rest) c.cluster.view_is) refl (c.in_ok-went.ensures.cut ∙ c.met_before.ensures.cut) c.args.n.0 c.args.job c.in_ok-went.ensures.rest

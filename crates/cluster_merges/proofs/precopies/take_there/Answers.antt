@@ -8,7 +8,8 @@ use Rattle.cluster_merges.proofs.TaskBehind.{all_behind, as_many_met, went_done,
 use Rattle.replica_node.specs.declared.parts.ReplicaParts.{ReplicaParts}
 use Rattle.cluster_state.specs.CallsLeft.{stage_calls}
 use Rattle.cluster_state.specs.JobsIn.{job_files}
-use Rattle.cluster_merges.proofs.KeptMerges.{replica_told, same_tell, all_but}
+use Rattle.replica_node.specs.declared.merges.MergeCopies.{MergeCopies}
+use Rattle.cluster_merges.proofs.KeptMerges.{but_ended_copy, but_taken, replica_told, same_tell, all_but}
 use Rattle.cluster_merges.proofs.precopies.take_there.Goals as goal
 
 pub runs_in-requires : goal.runs_in-requires
@@ -69,16 +70,18 @@ pub returns-then-not-runs_in-clause-cut : goal.returns-then-not-runs_in-clause-c
 returns-then-not-runs_in-clause-cut g c = c.show_task_met.ensures.cut
 
 pub returns-then-not-runs_in-clause-rest : goal.returns-then-not-runs_in-clause-rest
-returns-then-not-runs_in-clause-rest g c = all_but c.args.n.0 c.args.places.now.items c.args.places.now.items (same_tell c.args.places.now.items)
+returns-then-not-runs_in-clause-rest g c = all_but c.args.n.0 c.args.job c.args.places.now.items c.args.places.now.items (same_tell c.args.places.now.items)
 
 pub returns-in_ok-show_task_met-in-Done-clause-cut : goal.returns-in_ok-show_task_met-in-Done-clause-cut
 returns-in_ok-show_task_met-in-Done-clause-cut g c = c.show_task_met-in-Done.ensures.cut
 
 pub returns-in_ok-show_task_met-in-Done-clause-rest : goal.returns-in_ok-show_task_met-in-Done-clause-rest
-returns-in_ok-show_task_met-in-Done-clause-rest g c = replica_told c.args.n.0 (went_done _ _ _ _ c.in-Done.is c.in_ok-take_merged_in.ensures).replica c.args.places.now.items c.take_merged_in.new.places.items (went_done _ _ _ _ c.in-Done.is c.in_ok-take_merged_in.ensures).at (went_done _ _ _ _ c.in-Done.is c.in_ok-take_merged_in.ensures).moves (ap (λ (z : ReplicaParts _). stage_calls z.commits.stage) (went_done _ _ _ _ c.in-Done.is c.in_ok-take_merged_in.ensures).step.others) (ap (λ (z : ReplicaParts _). job_files z.seen.0 z.job) (went_done _ _ _ _ c.in-Done.is c.in_ok-take_merged_in.ensures).step.others)
+returns-in_ok-show_task_met-in-Done-clause-rest g c = replica_told c.args.n.0 c.args.job (went_done _ _ _ _ c.in-Done.is c.in_ok-take_merged_in.ensures).replica c.args.places.now.items c.take_merged_in.new.places.items (went_done _ _ _ _ c.in-Done.is c.in_ok-take_merged_in.ensures).at (went_done _ _ _ _ c.in-Done.is c.in_ok-take_merged_in.ensures).moves (ap (λ (z : ReplicaParts _). stage_calls z.commits.stage) (went_done _ _ _ _ c.in-Done.is c.in_ok-take_merged_in.ensures).step.others) (ap (λ (z : ReplicaParts _). job_files z.seen.0 z.job) (went_done _ _ _ _ c.in-Done.is c.in_ok-take_merged_in.ensures).step.others)
+    (but_taken g.D.Dir.cells c.args.job c.args.part (went_done _ _ _ _ c.in-Done.is c.in_ok-take_merged_in.ensures).at.parts (went_done _ _ _ _ c.in-Done.is c.in_ok-take_merged_in.ensures).replica ((may_take g.D.Dir.cells c.args.ledger.now c.args.tasks.now c.args.places.now.items c.requires.shown c.requires.legal c.args.seg c.args.n c.args.job c.requires.node (c.if-not-runs_in.ensures.runs refl) c.args.part c.requires.out c.requires.meta).may (went_done _ _ _ _ c.in-Done.is c.in_ok-take_merged_in.ensures).at.parts (went_done _ _ _ _ c.in-Done.is c.in_ok-take_merged_in.ensures).at.held (went_done _ _ _ _ c.in-Done.is c.in_ok-take_merged_in.ensures).at.there).runs (went_done _ _ _ _ c.in-Done.is c.in_ok-take_merged_in.ensures).step)
 
 pub returns-in_ok-fail_task-in-Failed-clause-cut : goal.returns-in_ok-fail_task-in-Failed-clause-cut
 returns-in_ok-fail_task-in-Failed-clause-cut g c = c.in_ok-fail_task-in-Failed.ensures.ok.ends.cut
 
 pub returns-in_ok-fail_task-in-Failed-clause-rest : goal.returns-in_ok-fail_task-in-Failed-clause-rest
-returns-in_ok-fail_task-in-Failed-clause-rest g c = replica_told c.args.n.0 (went_failed _ _ _ c.in-Failed.is c.in_ok-take_merged_in.ensures).replica c.args.places.now.items c.take_merged_in.new.places.items (went_failed _ _ _ c.in-Failed.is c.in_ok-take_merged_in.ensures).at (went_failed _ _ _ c.in-Failed.is c.in_ok-take_merged_in.ensures).moves (ap (λ (z : ReplicaParts _). stage_calls z.commits.stage) (went_failed _ _ _ c.in-Failed.is c.in_ok-take_merged_in.ensures).step.others) (ap (λ (z : ReplicaParts _). job_files z.seen.0 z.job) (went_failed _ _ _ c.in-Failed.is c.in_ok-take_merged_in.ensures).step.others)
+returns-in_ok-fail_task-in-Failed-clause-rest g c = replica_told c.args.n.0 c.args.job (went_failed _ _ _ c.in-Failed.is c.in_ok-take_merged_in.ensures).replica c.args.places.now.items c.take_merged_in.new.places.items (went_failed _ _ _ c.in-Failed.is c.in_ok-take_merged_in.ensures).at (went_failed _ _ _ c.in-Failed.is c.in_ok-take_merged_in.ensures).moves (ap (λ (z : ReplicaParts _). stage_calls z.commits.stage) (went_failed _ _ _ c.in-Failed.is c.in_ok-take_merged_in.ensures).step.others) (ap (λ (z : ReplicaParts _). job_files z.seen.0 z.job) (went_failed _ _ _ c.in-Failed.is c.in_ok-take_merged_in.ensures).step.others)
+    (but_ended_copy c.args.job (went_failed _ _ _ c.in-Failed.is c.in_ok-take_merged_in.ensures).at.parts (went_failed _ _ _ c.in-Failed.is c.in_ok-take_merged_in.ensures).replica (ap (λ (m : MergeCopies). m.running) (went_failed _ _ _ c.in-Failed.is c.in_ok-take_merged_in.ensures).step.copies))

@@ -11,7 +11,7 @@ use Rattle.cluster_state.proofs.Ledgers.{asked_of, fresh_of, legal_of, turns_of}
 use Rattle.cluster_merges.proofs.AtPrimary.{has_primary_at}
 use Rattle.cluster_merges.proofs.StartPaths.{not_many, none_all, spent_all, none_starts, spent_starts, merging_rule, started_all, begins_merge}
 use Rattle.cluster_state.specs.Run.{Run}
-use Rattle.cluster_merges.proofs.KeptMerges.{primary_told, asked_commits, but_sizes}
+use Rattle.cluster_merges.proofs.KeptMerges.{primary_told, asked_commits, asked_none, asked_spent, same_told, all_sized, but_sizes, more_rows}
 use Rattle.cluster_merges.proofs.starts.start_merge.Goals as goal
 
 pub is_fresh-requires : goal.is_fresh-requires
@@ -76,13 +76,14 @@ returns-clause-ok g c = begins_merge g.D.Dir.cells c.args.cluster.now c.cluster.
     c.keep.ensures.log c.keep.ensures.nodes c.keep.ensures.cut c.in_ok-begin.ensures.rows c.in_ok-begin.ensures.posted c.begin.ensures.counts
 
 pub returns-in-Ok-None-clause-rest : goal.returns-in-Ok-None-clause-rest
-returns-in-Ok-None-clause-rest g c = but_sizes c.args.cluster.now _ _ _ _ _ _ _ _ c.cluster.inside.places.items c.ask_in.new.places.items (ap (λ (x : Run). x.rest) c.cluster.view_is) refl c.in_ok-reserve.ensures.cut
-    (primary_told c.args.p.0 c.ask_in.ensures.primary c.cluster.inside.places.items c.ask_in.new.places.items c.ask_in.ensures.at c.ask_in.ensures.moves (asked_commits c.args.factor c.ask_in.ensures.at.parts c.ask_in.ensures.primary c.ask_in.result c.ask_in.ensures.step.answers))
+returns-in-Ok-None-clause-rest g c = all_sized c.args.cluster.now _ _ _ _ _ _ _ _ c.cluster.inside.places.items c.ask_in.new.places.items (ap (λ (x : Run). x.rest) c.cluster.view_is) refl c.in_ok-reserve.ensures.cut refl
+    (same_told c.args.p.0 c.ask_in.ensures.primary c.cluster.inside.places.items c.ask_in.new.places.items c.ask_in.ensures.at c.ask_in.ensures.moves (asked_none c.args.factor c.ask_in.ensures.at.parts c.ask_in.ensures.primary c.ask_in.result (c.in-Ok-None.is ∙ ap Ok c.in-Ok-None.field-0-is) c.ask_in.ensures.step.answers))
 
 pub returns-in-Err-clause-rest : goal.returns-in-Err-clause-rest
-returns-in-Err-clause-rest g c = but_sizes c.args.cluster.now _ _ _ _ _ _ _ _ c.cluster.inside.places.items c.ask_in.new.places.items (ap (λ (x : Run). x.rest) c.cluster.view_is) refl c.in_ok-reserve.ensures.cut
-    (primary_told c.args.p.0 c.ask_in.ensures.primary c.cluster.inside.places.items c.ask_in.new.places.items c.ask_in.ensures.at c.ask_in.ensures.moves (asked_commits c.args.factor c.ask_in.ensures.at.parts c.ask_in.ensures.primary c.ask_in.result c.ask_in.ensures.step.answers))
+returns-in-Err-clause-rest g c = all_sized c.args.cluster.now _ _ _ _ _ _ _ _ c.cluster.inside.places.items c.ask_in.new.places.items (ap (λ (x : Run). x.rest) c.cluster.view_is) refl c.in_ok-reserve.ensures.cut refl
+    (same_told c.args.p.0 c.ask_in.ensures.primary c.cluster.inside.places.items c.ask_in.new.places.items c.ask_in.ensures.at c.ask_in.ensures.moves (asked_spent c.args.factor c.ask_in.ensures.at.parts c.ask_in.ensures.primary c.ask_in.result c.in-Err.fault c.in-Err.is c.in_ok-cause-in-Err.ensures.0 c.ask_in.ensures.step.answers))
 
 pub returns-clause-rest : goal.returns-clause-rest
 returns-clause-rest g c = but_sizes c.args.cluster.now _ _ _ _ _ _ _ _ c.cluster.inside.places.items c.ask_in.new.places.items (ap (λ (x : Run). x.rest) c.cluster.view_is) refl (c.keep.ensures.cut ∙ (c.show_merging.ensures.cut ∙ c.in_ok-reserve.ensures.cut))
+    (λ same. absurd (more_rows c.args.at c.args.factor c.args.cluster.now _ (returns-clause-ok g c) same))
     (primary_told c.args.p.0 c.ask_in.ensures.primary c.cluster.inside.places.items c.ask_in.new.places.items c.ask_in.ensures.at c.ask_in.ensures.moves (asked_commits c.args.factor c.ask_in.ensures.at.parts c.ask_in.ensures.primary c.ask_in.result c.ask_in.ensures.step.answers))

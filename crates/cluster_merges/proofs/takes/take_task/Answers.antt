@@ -25,7 +25,7 @@ returns-in-Some-clause-ok g c = hands_task c.args.cluster.now c.cluster.inside.l
     (third_at c.cluster.view_is c.requires.running c.cluster.invariant)
 
 pub returns-in-None-clause-rest : goal.returns-in-None-clause-rest
-returns-in-None-clause-rest g c = but_tasks c.args.cluster.now _ _ _ _ _ _ _ _ c.cluster.inside.places.items c.cluster.inside.places.items (ap (λ (x : Run). x.rest) c.cluster.view_is) refl c.in_ok-reserve.ensures.cut (same_tell c.cluster.inside.places.items)
+returns-in-None-clause-rest g c = but_tasks c.args.cluster.now _ _ _ _ _ _ _ _ c.cluster.inside.places.items c.cluster.inside.places.items (ap (λ (x : Run). x.rest) c.cluster.view_is) refl c.in_ok-reserve.ensures.cut refl refl (same_tell c.cluster.inside.places.items)
 
 pub returns-in-Some-clause-rest : goal.returns-in-Some-clause-rest
-returns-in-Some-clause-rest g c = but_tasks c.args.cluster.now _ _ _ _ _ _ _ _ c.cluster.inside.places.items c.cluster.inside.places.items (ap (λ (x : Run). x.rest) c.cluster.view_is) refl (c.keep.ensures.cut ∙ c.in_ok-reserve.ensures.cut) (same_tell c.cluster.inside.places.items)
+returns-in-Some-clause-rest g c = but_tasks c.args.cluster.now _ _ _ _ _ _ _ _ c.cluster.inside.places.items c.cluster.inside.places.items (ap (λ (x : Run). x.rest) c.cluster.view_is) refl (c.keep.ensures.cut ∙ c.in_ok-reserve.ensures.cut) refl refl (same_tell c.cluster.inside.places.items)

@@ -41,10 +41,10 @@ returns-clause-ok g c =
     (c.in_ok-cut_merge.ensures.ok, sym (c.publishing.ensures ∙ ap (λ (l : Log). publish_in_flight (printed l)) c.book.ensures.log) ∙ none_of c.publishing.result (sym c.if-is_some.ensures))
 
 pub returns-then-not-is_copied-clause-rest : goal.returns-then-not-is_copied-clause-rest
-returns-then-not-is_copied-clause-rest g c = record { rest = refl }
+returns-then-not-is_copied-clause-rest g c = record { rest = refl; still = λ same. refl }
 
 pub returns-then-is_some-clause-rest : goal.returns-then-is_some-clause-rest
-returns-then-is_some-clause-rest g c = record { rest = refl }
+returns-then-is_some-clause-rest g c = record { rest = refl; still = λ same. refl }
 
 pub returns-clause-rest : goal.returns-clause-rest
 returns-clause-rest g c = c.in_ok-cut_merge.ensures.rest

@@ -68,7 +68,7 @@ returns-clause-ok g c =
     (not_whole c.args.file.now c.in-Err.field-0 (subst (λ (r : Result Part JobFault). ArrivesBy c.args.file.now r) c.in-Err.is c.requires.arrives)) c.in_ok-lose_merged-in-Err.ensures.ok)
 
 pub returns-then-not-has_copy_task-clause-rest : goal.returns-then-not-has_copy_task-clause-rest
-returns-then-not-has_copy_task-clause-rest g c = record { rest = refl; copies = λ m apart. refl }
+returns-then-not-has_copy_task-clause-rest g c = record { rest = refl; copies = λ m apart. refl; own = refl }
 
 pub returns-in-Done-clause-rest : goal.returns-in-Done-clause-rest
 returns-in-Done-clause-rest g c = c.in_ok-take_merged-in-Ok.ensures.rest

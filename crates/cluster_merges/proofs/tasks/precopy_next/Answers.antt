@@ -56,16 +56,16 @@ returns-in-Fails-clause-ok g c =
     (inr (subst (λ (t : CopyTurn). TurnsCopy c.args.line c.args.seg c.args.by c.args.n c.args.job c.args.state.now c.next_merged.new.cluster t) c.in-Fails.is c.in_ok-next_merged.ensures.ok))
 
 pub returns-then-not-has_copy_task-clause-rest : goal.returns-then-not-has_copy_task-clause-rest
-returns-then-not-has_copy_task-clause-rest g c = record { rest = refl; copies = λ m apart. refl }
+returns-then-not-has_copy_task-clause-rest g c = record { rest = refl; copies = λ m apart. refl; own = refl }
 
 pub returns-in-Waits-clause-rest : goal.returns-in-Waits-clause-rest
-returns-in-Waits-clause-rest g c = subst (KeepsButEnded c.args.n.0 c.args.state.now c.next_merged.new.cluster) c.in-Waits.is c.in_ok-next_merged.ensures.rest
+returns-in-Waits-clause-rest g c = subst (KeepsButEnded c.args.n.0 c.args.job c.args.state.now c.next_merged.new.cluster) c.in-Waits.is c.in_ok-next_merged.ensures.rest
 
 pub returns-in-Hands-clause-rest : goal.returns-in-Hands-clause-rest
-returns-in-Hands-clause-rest g c = subst (KeepsButEnded c.args.n.0 c.args.state.now c.next_merged.new.cluster) c.in-Hands.is c.in_ok-next_merged.ensures.rest
+returns-in-Hands-clause-rest g c = subst (KeepsButEnded c.args.n.0 c.args.job c.args.state.now c.next_merged.new.cluster) c.in-Hands.is c.in_ok-next_merged.ensures.rest
 
 pub returns-in-Ends-clause-rest : goal.returns-in-Ends-clause-rest
-returns-in-Ends-clause-rest g c = subst (KeepsButEnded c.args.n.0 c.args.state.now c.next_merged.new.cluster) c.in-Ends.is c.in_ok-next_merged.ensures.rest
+returns-in-Ends-clause-rest g c = subst (KeepsButEnded c.args.n.0 c.args.job c.args.state.now c.next_merged.new.cluster) c.in-Ends.is c.in_ok-next_merged.ensures.rest
 
 pub returns-in-Fails-clause-rest : goal.returns-in-Fails-clause-rest
-returns-in-Fails-clause-rest g c = subst (KeepsButEnded c.args.n.0 c.args.state.now c.next_merged.new.cluster) c.in-Fails.is c.in_ok-next_merged.ensures.rest
+returns-in-Fails-clause-rest g c = subst (KeepsButEnded c.args.n.0 c.args.job c.args.state.now c.next_merged.new.cluster) c.in-Fails.is c.in_ok-next_merged.ensures.rest

@@ -1,4 +1,4 @@
-use Rattle.std.proofs.Common.{◌≡◌, ◌∙◌, [], Option, Some, None, ap, subst}
+use Rattle.std.proofs.Common.{◌∙◌, Option, None, ap, subst}
 use Rattle.history_rules.specs.declared.cause.Cause.{Cause}
 use Rattle.history_rules.specs.Lines.{entries_of_line}
 use Rattle.history_book.specs.Log.{Log, printed}

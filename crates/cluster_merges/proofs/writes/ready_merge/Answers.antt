@@ -1,4 +1,4 @@
-use Rattle.std.proofs.Common.{◌≡◌, ◌+◌, ◌∙◌, ℕ, List, length, true, Some, ap, sym, subst, refl, arith}
+use Rattle.std.proofs.Common.{◌≡◌, ◌∙◌, ℕ, List, Some, ap, sym, subst, refl, arith}
 use Rattle.nrt_base.specs.declared.numbers.NodeNo.{NodeNo}
 use Rattle.history_rules.specs.Nodes.{IsNode, primary_of}
 use Rattle.history_book.specs.Log.{Log, printed}
@@ -11,6 +11,7 @@ use Rattle.cluster_merges.specs.MergePaths.{IsMergedOut}
 use Rattle.cluster_merges.proofs.InsideSteps.{all_is}
 use Rattle.cluster_merges.proofs.ReadyPaths.{is_on}
 use Rattle.cluster_merges.proofs.TaskBehind.{line_there, built_so}
+use Rattle.cluster_merges.proofs.SentTold.{built_kept, built_rows}
 use Rattle.cluster_merges.proofs.writes.ready_merge.Goals as goal
 
 pub unreachable-requires : goal.unreachable-requires
@@ -55,4 +56,8 @@ invariant_of-cluster-2 g c = λ running. c.in_ok-ready_there.ensures.shown
 pub returns-clause-ok : goal.returns-clause-ok
 returns-clause-ok g c =
     built_so g.D.FaultDir.planned c.args.cluster.now c.cluster.inside.ledger c.met_before.new.ledger c.cluster.inside.tasks c.cluster.inside.places.items c.ready_there.new.places.items c.cluster.view_is c.met_before.ensures.log c.met_before.ensures.nodes c.met_before.ensures.cut
-    refl refl refl _ refl c.ready_there.new.ledger c.ready_there.new.tasks refl refl c.in-Some.at c.args.line c.args.seg c.args.by (sym c.merge_on.ensures ∙ c.in-Some.is) c.args.p c.requires.primary _ c.in_ok-ready_there.ensures.ok
+    refl refl refl _ refl refl refl c.ready_there.new.ledger c.ready_there.new.tasks refl refl c.in-Some.at c.args.line c.args.seg c.args.by (sym c.merge_on.ensures ∙ c.in-Some.is) c.args.p c.requires.primary _ c.in_ok-ready_there.ensures.ok
+
+pub returns-clause-rest : goal.returns-clause-rest
+returns-clause-rest g c = built_kept c.args.cluster.now _ _ _ _ _ _ _ _ c.cluster.inside.places.items c.ready_there.new.places.items (ap (λ (x : Run). x.rest) c.cluster.view_is) refl (c.in_ok-ready_there.ensures.cut ∙ c.met_before.ensures.cut)
+    c.met_before.new.ledger.log (c.met_before.ensures.log ∙ ap (λ (x : Run). x.log) c.cluster.view_is) c.args.seg c.requires.unwritten (built_rows c.args.line c.args.seg c.args.by c.args.cluster.now _ c.requires.unwritten (returns-clause-ok g c)) c.in_ok-ready_there.ensures.rest

@@ -19,7 +19,7 @@ returns-clause-ok g c =
     subst (λ (s : SiteRun). IfOk c.precopy_arrived.result (PartTurns c.args.task.now.line c.args.task.now.seg c.args.task.now.by c.args.copy.node c.args.copy.job c.args.file.now.fate s.run c.precopy_arrived.new.self)) c.self.view_is c.precopy_arrived.ensures.ok
 
 pub returns-clause-rest : goal.returns-clause-rest
-returns-clause-rest g c = subst (λ (s : SiteRun). OnOk c.precopy_arrived.result (KeepsButCopies c.args.copy.node.0 s.run c.precopy_arrived.new.self)) c.self.view_is c.precopy_arrived.ensures.rest
+returns-clause-rest g c = subst (λ (s : SiteRun). OnOk c.precopy_arrived.result (KeepsButCopies c.args.copy.node.0 c.args.copy.job s.run c.precopy_arrived.new.self)) c.self.view_is c.precopy_arrived.ensures.rest
 
 pub returns-clause-err : goal.returns-clause-err
 returns-clause-err g c =

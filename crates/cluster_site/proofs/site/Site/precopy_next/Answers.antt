@@ -19,7 +19,7 @@ returns-clause-ok g c =
     subst (λ (s : SiteRun). IfOk c.precopy_next.result (PrecopyTurns c.args.task.now.line c.args.task.now.seg c.args.task.now.by c.args.copy.node c.args.copy.job s.run c.precopy_next.new.self)) c.self.view_is c.precopy_next.ensures.ok
 
 pub returns-clause-rest : goal.returns-clause-rest
-returns-clause-rest g c = subst (λ (s : SiteRun). IfOk c.precopy_next.result (KeepsCopyTurn c.args.copy.node.0 s.run c.precopy_next.new.self)) c.self.view_is c.precopy_next.ensures.rest
+returns-clause-rest g c = subst (λ (s : SiteRun). IfOk c.precopy_next.result (KeepsCopyTurn c.args.copy.node.0 c.args.copy.job s.run c.precopy_next.new.self)) c.self.view_is c.precopy_next.ensures.rest
 
 pub returns-clause-err : goal.returns-clause-err
 returns-clause-err g c =
