@@ -23,7 +23,7 @@ use Rattle.lane_threads.specs.Owes.{SuitsOrReplays, GoesByLine}
 use Rattle.trans_log.specs.declared.record.LogOp.{LogOp}
 use Rattle.disk_model.specs.Disk.{Name}
 use Rattle.disk_model.specs.Faults.{Plans}
-use Rattle.cluster_state.specs.Run.{Rest, Run, KeepsRest}
+use Rattle.cluster_state.specs.Run.{Run, KeepsRest}
 use Rattle.cluster_site.specs.Sites.{operations_in}
 use Rattle.cluster_site.specs.Replays.{with_accepted, version_promoted, newest_promoted, LacksBehind, Lacks, MayAcceptAgain, OwesRecords, OwesLacking, ReplaysTo, AcceptsRecords, AcceptsLacking}
 
