@@ -1,9 +1,8 @@
 -- Where the operations of versions were written, and what is kept of them.
-use Rattle.std.proofs.Common.{◌≡◌, ◌==◌, ◌≤◌, ◌<◌, ◌+◌, ◌^◌, ◌∙◌, ℕ, List, [], ◌∷◌, ◌++◌, length, take, drop, reverse, nat_le, if◌then◌else◌, Bool, true, false, ◌&&◌, refl, sym, ap, subst, arith, take-append-drop, length-take-le}
+use Rattle.std.proofs.Common.{◌≡◌, ◌==◌, ◌≤◌, ◌+◌, ◌∙◌, ℕ, List, [], ◌∷◌, ◌++◌, length, take, drop, reverse, nat_le, if◌then◌else◌, Bool, true, false, ◌&&◌, refl, sym, ap, subst, arith, take-append-drop, length-take-le}
 use Rattle.std.specs.BTreeMap.{BTreeMap}
 use Rattle.std.proofs.lemmas.Bool.{le-leb}
 use Rattle.std.proofs.lemmas.Bool.Decides.{nat_tests}
-use Rattle.std.specs.List.{list_any}
 use Rattle.std.proofs.lemmas.List.{length-append, length-map, length-reverse, reverse-append}
 use Rattle.nrt_base.specs.declared.doc.Doc.{Doc}
 use Rattle.nrt_base.specs.declared.numbers.At.{At}
@@ -11,24 +10,21 @@ use Rattle.nrt_base.specs.declared.numbers.Gen.{Gen}
 use Rattle.nrt_base.specs.declared.numbers.NodeNo.{NodeNo}
 use Rattle.nrt_base.specs.declared.numbers.Version.{Version}
 use Rattle.documents.specs.declared.operation.Op.{Op}
-use Rattle.documents.specs.declared.answer.Answer.{Answer}
-use Rattle.documents.specs.declared.query.Query.{Query}
 use Rattle.documents.specs.Documents.{IsAscending, document_of, documents_in, documents_after, after_op}
-use Rattle.documents.specs.Ranking.{is_too_high, scan_of}
 use Rattle.documents.proofs.DocumentLemmas.{documents_after_last, documents_ascend}
 use Rattle.history_rules.specs.declared.entry.Entry.{Entry}
 use Rattle.history_rules.specs.declared.entry.Event.{Event}
 use Rattle.history_rules.specs.declared.entry.Event.TheVariants.{Accepted, Published, Promoted}
-use Rattle.history_rules.specs.Nodes.{Past, version_of, accepted_count}
+use Rattle.history_rules.specs.Nodes.{Past, version_of}
 use Rattle.history_rules.specs.Lines.{same_at, is_start, before_start}
 use Rattle.history_rules.specs.Points.{operations_written, operations_at_start, operations_at, documents_at}
-use Rattle.history_rules.proofs.PointLemmas.{length-documents_at-le}
 use Rattle.history_facts.proofs.WrittenLemmas.{started}
 use Rattle.known_past.proofs.Given.{start_short}
 use Rattle.history_points.specs.declared.asked.AskedPoint.{AskedPoint}
-use Rattle.history_points.specs.declared.searched.Searched.{Searched}
+use Rattle.history_points.specs.declared.reached.Reached.{Reached}
+use Rattle.history_points.specs.declared.searched.SearchedTexts.{SearchedTexts}
 use Rattle.history_points.specs.Kept.{IsSearched}
-use Rattle.history_points.specs.AskedPoints.{place_at, oldest, IsPlaceOfPoint, ArePlacesOfPoints, IsAskedPoint, HoldsPoint}
+use Rattle.history_points.specs.AskedPoints.{place_at, oldest, IsPlaceOfPoint, ArePlacesOfPoints, IsReachedBy, IsAskedPoint}
 
 -- one entry more is none of the oldest
 pub oldest-more : (k : ℕ) (e : Entry) (past : Past) → k ≤ length past → oldest k (e ∷ past) ≡ oldest k past
@@ -145,34 +141,73 @@ same_written past e docs accepted promoted was = was ∙ ap documents_after (sym
     same event accepted promoted = refl
 
 -- what is kept after one more entry, where the texts stay
-pub asked_next : (past : Past) (e : Entry) (old new : AskedPoint) → IsAskedPoint past old → ArePlacesOfPoints (e ∷ past) new.places → new.count ≡ old.count → new.searched ≡ old.searched → IsAskedPoint (e ∷ past) new
-asked_next past e old new asked places count searched = record {
+pub asked_next : (past : Past) (e : Entry) (old new : AskedPoint) → IsAskedPoint past old → ArePlacesOfPoints (e ∷ past) new.places → new.reached ≡ old.reached → IsAskedPoint (e ∷ past) new
+asked_next past e old new asked places same = record {
   places = places;
-  low = let low = asked.low in omega (arith, low, count);
-  kept = subst IsSearched (sym searched) asked.kept;
+  reached = subst (IsReachedBy (e ∷ past)) (sym same) (reached_next past e old.reached asked.reached);
+}
+  where
+    reached_next : (past : Past) (e : Entry) (reached : Reached) → IsReachedBy past reached → IsReachedBy (e ∷ past) reached
+    reached_next past e reached h = record {
+      low = let low = h.low in omega (arith, low);
+      kept = h.kept;
+      texts = h.texts ∙ ap (λ (p : Past). documents_after (operations_written p)) (sym (oldest-more reached.count e past h.low));
+    }
+
+oldest-none : (past : Past) → oldest 0 past ≡ []
+oldest-none [] = refl
+oldest-none (e ∷ past) = oldest-more 0 e past (omega arith) ∙ oldest-none past
+
+-- no entry wrote no texts
+pub none_reached : (past : Past) (reached : Reached) → reached.count ≡ 0 → IsSearched reached.searched → documents_in reached.searched.texts ≡ [] → IsReachedBy past reached
+none_reached past reached count kept none = record {
+  low = omega (arith, count);
+  kept = kept;
   texts =
-      ap (λ (s : Searched). documents_in s.texts) searched ∙ asked.texts ∙ ap (λ (p : Past). documents_after (operations_written p)) (sym (oldest-more old.count e past asked.low))
-      ∙ ap (λ (k : ℕ). documents_after (operations_written (oldest k (e ∷ past)))) (sym count);
+      none ∙ ap (λ (p : Past). documents_after (operations_written p)) (sym (oldest-none past))
+      ∙ ap (λ (k : ℕ). documents_after (operations_written (oldest k past))) (sym count);
 }
 
 -- the texts that are kept, as those of the first entries
-pub asked_texts : (entries : List Entry) (asked : AskedPoint) → IsAskedPoint (reverse entries) asked
-    → documents_in asked.searched.texts ≡ documents_after (operations_written (reverse (take asked.count entries)))
-asked_texts entries asked h =
-    let low : asked.count ≤ length entries = subst (λ (n : ℕ). asked.count ≤ n) (length-reverse entries) h.low in
-    h.texts ∙ ap (λ (p : Past). documents_after (operations_written p)) (oldest-reverse entries asked.count low)
+pub reached_texts : (entries : List Entry) (reached : Reached) → IsReachedBy (reverse entries) reached
+    → documents_in reached.searched.texts ≡ documents_after (operations_written (reverse (take reached.count entries)))
+reached_texts entries reached h =
+    let low : reached.count ≤ length entries = subst (λ (n : ℕ). reached.count ≤ n) (length-reverse entries) h.low in
+    h.texts ∙ ap (λ (p : Past). documents_after (operations_written p)) (oldest-reverse entries reached.count low)
 
 -- what is kept where the texts went on to what so many entries wrote
-pub asked_there : (entries : List Entry) (old new : AskedPoint) (place : ℕ) → IsAskedPoint (reverse entries) old → place ≤ length entries → new.places ≡ old.places → new.count ≡ place
-    → IsSearched new.searched → documents_in new.searched.texts ≡ documents_after (operations_written (reverse (take place entries))) → IsAskedPoint (reverse entries) new
-asked_there entries old new place asked low places count kept texts =
+pub reached_there : (entries : List Entry) (new : Reached) (place : ℕ) → place ≤ length entries → new.count ≡ place → IsSearched new.searched
+    → documents_in new.searched.texts ≡ documents_after (operations_written (reverse (take place entries))) → IsReachedBy (reverse entries) new
+reached_there entries new place low count kept texts =
     let size : length (reverse entries) ≡ length entries = length-reverse entries in
     record {
-      places = subst (ArePlacesOfPoints (reverse entries)) (sym places) asked.places;
       low = omega (arith, low, count, size);
       kept = kept;
       texts =
           texts ∙ ap (λ (p : Past). documents_after (operations_written p)) (sym (oldest-reverse entries place low))
+          ∙ ap (λ (k : ℕ). documents_after (operations_written (oldest k (reverse entries)))) (sym count);
+    }
+
+-- where the texts went on to the place of a point they are its documents
+pub reached_point : (past before : Past) (v place : ℕ) (reached : Reached) → IsReachedBy past reached → reached.count ≡ place → operations_at before v ≡ operations_written (oldest place past)
+    → documents_in reached.searched.texts ≡ documents_at before v
+reached_point past before v place reached is count point =
+    is.texts ∙ ap (λ (k : ℕ). documents_after (operations_written (oldest k past))) count ∙ ap documents_after (sym point)
+
+-- the documents of a point ascend
+pub point_ascends : (past : Past) (v : ℕ) (docs : List Doc) → docs ≡ documents_at past v → IsAscending docs
+point_ascends past v docs is = subst IsAscending (sym is) (documents_ascend (operations_at past v))
+
+-- where the texts were made of the documents of a point, they are what wrote it
+pub made_reached : (entries : List Entry) (before : Past) (v place : ℕ) (new : Reached) (docs : List Doc) → place ≤ length entries → new.count ≡ place → IsSearched new.searched
+    → documents_in new.searched.texts ≡ docs → docs ≡ documents_at before v → operations_at before v ≡ operations_written (oldest place (reverse entries)) → IsReachedBy (reverse entries) new
+made_reached entries before v place new docs low count kept texts is point =
+    let size : length (reverse entries) ≡ length entries = length-reverse entries in
+    record {
+      low = omega (arith, low, count, size);
+      kept = kept;
+      texts =
+          texts ∙ is ∙ ap documents_after point
           ∙ ap (λ (k : ℕ). documents_after (operations_written (oldest k (reverse entries)))) (sym count);
     }
 
@@ -183,61 +218,14 @@ place_low entries asked v place h is =
     let size : length (reverse entries) ≡ length entries = length-reverse entries in
     omega (arith, low, is, size)
 
--- where the texts went on to the place of a version they are those of its point
-pub reached_point : (past : Past) (old new : AskedPoint) (v place : ℕ) → IsAskedPoint past old → place ≡ place_at old.places v → IsAskedPoint past new → new.count ≡ place → HoldsPoint past v new
-reached_point past old new v place was is now count = record {
-  kept = now;
-  point =
-      now.texts ∙ ap (λ (k : ℕ). documents_after (operations_written (oldest k past))) (count ∙ is)
-      ∙ ap documents_after (sym (was.places v).operations);
-}
+-- the place of a version has its operations
+pub place_is : (past : Past) (asked : AskedPoint) (v place : ℕ) → IsAskedPoint past asked → place ≡ place_at asked.places v → operations_at past v ≡ operations_written (oldest place past)
+place_is past asked v place h is = (h.places v).operations ∙ ap (λ (k : ℕ). operations_written (oldest k past)) (sym is)
 
--- the documents of a point ascend
-pub point_ascends : (past : Past) (v : ℕ) (docs : List Doc) → docs ≡ documents_at past v → IsAscending docs
-point_ascends past v docs is = subst IsAscending (sym is) (documents_ascend (operations_at past v))
-
--- there are no more texts than operations were accepted
-pub texts_few : (past : Past) (v : ℕ) (asked : AskedPoint) → HoldsPoint past v asked → accepted_count past < 2 ^ 32 → length asked.searched.texts.entries < 2 ^ 32
-texts_few past v asked holds few =
-    let size : length (documents_in asked.searched.texts) ≡ length asked.searched.texts.entries = length-map asked.searched.texts.entries document_of in
-    let same : length (documents_in asked.searched.texts) ≡ length (documents_at past v) = ap (λ (ds : List Doc). length ds) holds.point in
-    omega (arith, size, same, length-documents_at-le past v, few)
-
--- the scan of the texts is that of the point
-pub answer_there : (past : Past) (v : ℕ) (asked : AskedPoint) (query : Query) (answer : Answer) → HoldsPoint past v asked → answer ≡ scan_of (documents_in asked.searched.texts) query
-    → answer ≡ scan_of (documents_at past v) query
-answer_there past v asked query answer holds is = is ∙ ap (λ (ds : List Doc). scan_of ds query) holds.point
-
--- a document that ranks too high is one of the point
-pub high_there : (past : Past) (v : ℕ) (asked : AskedPoint) (query : Query) → HoldsPoint past v asked → list_any (is_too_high query) (documents_in asked.searched.texts) ≡ true
-    → list_any (is_too_high query) (documents_at past v) ≡ true
-high_there past v asked query holds high = ap (list_any (is_too_high query)) (sym holds.point) ∙ high
-
--- what is kept after a search, where the texts stay
-pub answered : (past : Past) (v : ℕ) (old new : AskedPoint) → HoldsPoint past v old → new.places ≡ old.places → new.count ≡ old.count → new.searched.texts ≡ old.searched.texts → IsSearched new.searched
-    → IsAskedPoint past new
-answered past v old new holds places count texts kept = record {
-  places = subst (ArePlacesOfPoints past) (sym places) holds.kept.places;
-  low = let low = holds.kept.low in omega (arith, low, count);
-  kept = kept;
-  texts = ap documents_in texts ∙ holds.kept.texts ∙ ap (λ (k : ℕ). documents_after (operations_written (oldest k past))) (sym count);
-}
+-- what is kept after documents were counted
+pub asked_there : (past : Past) (old new : AskedPoint) → IsAskedPoint past old → new.places ≡ old.places → IsReachedBy past new.reached → IsAskedPoint past new
+asked_there past old new asked places reached = record { places = subst (ArePlacesOfPoints past) (sym places) asked.places; reached = reached }
 
 -- there are as many texts as documents
-pub count_there : (past : Past) (v : ℕ) (asked : AskedPoint) (count : ℕ) → HoldsPoint past v asked → count ≡ length asked.searched.texts.entries → count ≡ length (documents_at past v)
-count_there past v asked count holds is = is ∙ sym (length-map asked.searched.texts.entries document_of) ∙ ap (λ (ds : List Doc). length ds) holds.point
-
--- where the texts were made of the documents of a version they are those of its point
-pub made_point : (past : Past) (old new : AskedPoint) (v place : ℕ) (docs : List Doc) → IsAskedPoint past old → place ≡ place_at old.places v → new.places ≡ old.places → new.count ≡ place
-    → IsSearched new.searched → documents_in new.searched.texts ≡ docs → docs ≡ documents_at past v → HoldsPoint past v new
-made_point past old new v place docs was is places count kept texts point = record {
-  kept = record {
-    places = subst (ArePlacesOfPoints past) (sym places) was.places;
-    low = let low = (was.places v).low in omega (arith, low, is, count);
-    kept = kept;
-    texts =
-        texts ∙ point ∙ ap documents_after (was.places v).operations
-        ∙ ap (λ (k : ℕ). documents_after (operations_written (oldest k past))) (sym (count ∙ is));
-  };
-  point = texts ∙ point;
-}
+pub count_there : (searched : SearchedTexts) (docs : List Doc) (count : ℕ) → documents_in searched.texts ≡ docs → count ≡ length searched.texts.entries → count ≡ length docs
+count_there searched docs count is counted = counted ∙ sym (length-map searched.texts.entries document_of) ∙ ap (λ (ds : List Doc). length ds) is

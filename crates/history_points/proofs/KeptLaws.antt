@@ -25,9 +25,9 @@ use Rattle.documents.specs.Ranking.{hit_of, hit_cmp, matching_hits, rank_of, sca
 use Rattle.documents.specs.Words.{words_of}
 use Rattle.documents.proofs.DocumentLemmas.{ascending_passing}
 use Rattle.history_points.specs.declared.kept.KeptQuery.{KeptQuery}
-use Rattle.history_points.specs.declared.searched.Searched.{Searched}
+use Rattle.history_points.specs.declared.searched.SearchedTexts.{SearchedTexts}
 use Rattle.history_points.proofs.EntryLaws.{at_equal, at_itself, same_entries}
-use Rattle.history_points.specs.Kept.{HasHits, KeepsHits, KeepAllHits, IsSearched, head_rank, hit_at, ranks_of}
+use Rattle.history_points.specs.Kept.{HasHits, KeepsHits, KeepAllHits, IsSearched, head_rank, ranked_hit, ranks_of}
 
 -- ---- a key among others
 
@@ -184,18 +184,18 @@ module _ (query : Query) where
   keys-ranks [] = refl
   keys-ranks (d ∷ docs) = ap (λ (ks : List (List ℕ)). d.key ∷ ks) (keys-ranks docs)
 
-  hits-ranks : (docs : List Doc) → map hit_at (ranks_of (map (hit_of query) docs)) ≡ map (hit_of query) docs
+  hits-ranks : (docs : List Doc) → map ranked_hit (ranks_of (map (hit_of query) docs)) ≡ map (hit_of query) docs
   hits-ranks [] = refl
   hits-ranks (d ∷ docs) = ap (λ (hs : List Hit). hit_of query d ∷ hs) (hits-ranks docs)
 
   -- the ranks in order of key are the hits
   pub hits_in : (docs : List Doc) (ranks : BTreeMap (List ℕ) ℕ) → IsAscending docs → IsOrdered key_cmp ranks → HasHits (matching_hits query docs) ranks
-      → map hit_at ranks.entries ≡ matching_hits query docs
+      → map ranked_hit ranks.entries ≡ matching_hits query docs
   hits_in docs ranks ascending ordered has =
       let hits = filter (matches_doc query) docs in
       let up : IsStrictlySortedBy key_cmp (keys_of (ranks_of (matching_hits query docs))) = subst (IsStrictlySortedBy key_cmp) (sym (keys-ranks hits)) (ascending_passing (matches_doc query) docs ascending) in
       let same : ranks.entries ≡ ranks_of (matching_hits query docs) = same_entries ranks.entries (ranks_of (matching_hits query docs)) ordered up has in
-      ap (map hit_at) same ∙ hits-ranks hits
+      ap (map ranked_hit) same ∙ hits-ranks hits
 
 -- a map of texts in order has documents in order
 pub texts_ascend : (texts : BTreeMap (List ℕ) (List ℕ)) → IsOrdered key_cmp texts → IsAscending (documents_in texts)
@@ -207,11 +207,11 @@ texts_ascend texts ordered = subst (IsStrictlySortedBy key_cmp) (sym (keys_in te
 
 -- what the first 20 and their number answer
 pub answer_is : (docs : List Doc) (query : Query) (ranks : BTreeMap (List ℕ) ℕ) (total : ℕ) (best : List Hit) → IsAscending docs → IsOrdered key_cmp ranks → HasHits (matching_hits query docs) ranks
-    → total ≡ length ranks.entries → best ≡ take 20 (in_order hit_cmp (map hit_at ranks.entries)) → ◌≡◌ {A = Answer} (record { total = total; hits = best }) (scan_of docs query)
+    → total ≡ length ranks.entries → best ≡ take 20 (in_order hit_cmp (map ranked_hit ranks.entries)) → ◌≡◌ {A = Answer} (record { total = total; hits = best }) (scan_of docs query)
 answer_is docs query ranks total best ascending ordered has count first =
     let same = hits_in query docs ranks ascending ordered has in
     same_answer total (length (matching_hits query docs)) best (take 20 (in_order hit_cmp (matching_hits query docs)))
-    (count ∙ sym (length-map ranks.entries hit_at) ∙ ap (λ (hs : List Hit). length hs) same) (first ∙ ap (λ (hs : List Hit). take 20 (in_order hit_cmp hs)) same)
+    (count ∙ sym (length-map ranks.entries ranked_hit) ∙ ap (λ (hs : List Hit). length hs) same) (first ∙ ap (λ (hs : List Hit). take 20 (in_order hit_cmp hs)) same)
   where
     same_answer : (m n : ℕ) (hits others : List Hit) → m ≡ n → hits ≡ others → ◌≡◌ {A = Answer} (record { total = m; hits = hits }) (record { total = n; hits = others })
     same_answer m n hits others e f = cc
@@ -235,14 +235,14 @@ told_there docs query ranks (Err e) ascending has told = tt
 -- ---- the texts and what is kept beside them
 
 -- nothing is kept
-pub none_kept : (searched : Searched) → IsOrdered key_cmp searched.texts → searched.kept.items ≡ [] → IsSearched searched
+pub none_kept : (searched : SearchedTexts) → IsOrdered key_cmp searched.texts → searched.kept.items ≡ [] → IsSearched searched
 none_kept searched ordered none = record {
   ordered = ordered;
   kept = subst (All (KeepsHits (documents_in searched.texts))) (sym none) (All-nil (KeepsHits (documents_in searched.texts)));
 }
 
 -- one more query is kept
-pub one_kept : (old new : Searched) (one : KeptQuery) → IsSearched old → KeepsHits (documents_in old.texts) one → new.texts ≡ old.texts → new.kept.items ≡ old.kept.items ++ one ∷ [] → IsSearched new
+pub one_kept : (old new : SearchedTexts) (one : KeptQuery) → IsSearched old → KeepsHits (documents_in old.texts) one → new.texts ≡ old.texts → new.kept.items ≡ old.kept.items ++ one ∷ [] → IsSearched new
 one_kept old new one was keeps texts more =
     let keep : KeptQuery → Type 0 = KeepsHits (documents_in old.texts) in
     record {
@@ -251,7 +251,7 @@ one_kept old new one was keeps texts more =
     }
 
 -- what is kept followed an operation
-pub all_followed : (old new : Searched) (op : Op) (left : List KeptQuery) → left ≡ old.kept.items → IsSearched old → IsOrdered key_cmp new.texts → documents_in new.texts ≡ after_op (documents_in old.texts) op
+pub all_followed : (old new : SearchedTexts) (op : Op) (left : List KeptQuery) → left ≡ old.kept.items → IsSearched old → IsOrdered key_cmp new.texts → documents_in new.texts ≡ after_op (documents_in old.texts) op
     → ((docs : List Doc) → KeepAllHits docs left → KeepAllHits (after_op docs op) new.kept.items) → IsSearched new
 all_followed old new op left is was ordered after follow =
     let had : KeepAllHits (documents_in old.texts) left = subst (KeepAllHits (documents_in old.texts)) (sym is) was.kept in

@@ -2,5 +2,7 @@ mod AskedLaws
 mod BestLaws
 mod CandidateLaws
 mod EntryLaws
+mod HitLemmas
 mod KeptLaws
+mod RightLaws
 mod WalkLemmas

@@ -4,8 +4,9 @@ use Rattle.std.specs.Ordering.{nat_cmp}
 use Rattle.std.specs.BTreeMap.{BTreeMap, get}
 use Rattle.documents.specs.Documents.{documents_in, documents_after}
 use Rattle.history_rules.specs.Nodes.{Past}
-use Rattle.history_rules.specs.Points.{operations_written, operations_at, documents_at}
+use Rattle.history_rules.specs.Points.{operations_written, operations_at}
 use Rattle.history_points.specs.declared.asked.AskedPoint.{AskedPoint}
+use Rattle.history_points.specs.declared.reached.Reached.{Reached}
 use Rattle.history_points.specs.Kept.{IsSearched}
 
 -- so many of the oldest entries
@@ -26,14 +27,13 @@ pub record IsPlaceOfPoint (past : Past) (v place : ℕ) : Type 0 where
 abbrev pub ArePlacesOfPoints : Past → BTreeMap ℕ ℕ → Type 0
 ArePlacesOfPoints past places = (v : ℕ) → IsPlaceOfPoint past v (place_at places v)
 
--- places are noted, and the texts are those that so many of the oldest entries wrote
+-- the texts are those that so many of the oldest entries wrote
+pub record IsReachedBy (past : Past) (reached : Reached) : Type 0 where
+  pub low : reached.count ≤ length past
+  pub kept : IsSearched reached.searched
+  pub texts : documents_in reached.searched.texts ≡ documents_after (operations_written (oldest reached.count past))
+
+-- places are noted, and the texts are those that some of the oldest entries wrote
 pub record IsAskedPoint (past : Past) (asked : AskedPoint) : Type 0 where
   pub places : ArePlacesOfPoints past asked.places
-  pub low : asked.count ≤ length past
-  pub kept : IsSearched asked.searched
-  pub texts : documents_in asked.searched.texts ≡ documents_after (operations_written (oldest asked.count past))
-
--- the texts are those of the point of the version
-pub record HoldsPoint (past : Past) (v : ℕ) (asked : AskedPoint) : Type 0 where
-  pub kept : IsAskedPoint past asked
-  pub point : documents_in asked.searched.texts ≡ documents_at past v
+  pub reached : IsReachedBy past asked.reached

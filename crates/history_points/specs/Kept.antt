@@ -3,6 +3,7 @@ use Rattle.std.specs.Prelude.{ℕ, ◌≡◌, List, [], ◌∷◌, map, take, Op
 use Rattle.std.specs.List.{All}
 use Rattle.std.specs.List.Sorted.{IsSorted}
 use Rattle.std.specs.Map.{lookup}
+use Rattle.std.specs.declared.cmp.Ordering.TheVariants.{Less}
 use Rattle.std.specs.BTreeMap.{BTreeMap, IsOrdered, get, is_at}
 use Rattle.nrt_base.specs.declared.doc.Doc.{Doc}
 use Rattle.documents.specs.declared.answer.Hit.{Hit}
@@ -10,15 +11,15 @@ use Rattle.documents.specs.Documents.{documents_in, key_cmp}
 use Rattle.documents.specs.InOrder.{in_order}
 use Rattle.documents.specs.Ranking.{hit_cmp, matching_hits}
 use Rattle.history_points.specs.declared.kept.KeptQuery.{KeptQuery}
-use Rattle.history_points.specs.declared.searched.Searched.{Searched}
+use Rattle.history_points.specs.declared.searched.SearchedTexts.{SearchedTexts}
 
 -- hits, each as its key and its rank
 abbrev pub ranks_of : List Hit → List (List ℕ × ℕ)
 ranks_of hits = map (λ h. (h.key, h.rank)) hits
 
 -- a key and a rank, as a hit
-abbrev pub hit_at : List ℕ × ℕ → Hit
-hit_at entry = record { key = entry.0; rank = entry.1 }
+abbrev pub ranked_hit : List ℕ × ℕ → Hit
+ranked_hit entry = record { key = entry.0; rank = entry.1 }
 
 -- the map has the rank of each of these hits, and no other
 abbrev pub HasHits : List Hit → BTreeMap (List ℕ) ℕ → Type 0
@@ -39,7 +40,7 @@ abbrev pub KeepAllHits : List Doc → List KeptQuery → Type 0
 KeepAllHits docs kept = All (KeepsHits docs) kept
 
 -- the texts are in order, and what is kept are the hits among them
-pub record IsSearched (searched : Searched) : Type 0 where
+pub record IsSearched (searched : SearchedTexts) : Type 0 where
   pub ordered : IsOrdered key_cmp searched.texts
   pub kept : KeepAllHits (documents_in searched.texts) searched.kept.items
 
@@ -47,3 +48,7 @@ pub record IsSearched (searched : Searched) : Type 0 where
 pub record AreFirst (hits best : List Hit) : Type 0 where
   pub first : best ≡ take 20 (in_order hit_cmp hits)
   pub sorted : IsSorted hit_cmp best
+
+-- the keys of these hits are below a key
+abbrev pub AreKeysBelow : List ℕ → List Hit → Type 0
+AreKeysBelow key hits = All (λ h. key_cmp h.key key ≡ Less) hits

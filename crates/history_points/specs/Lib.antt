@@ -1,4 +1,5 @@
 pub mod AskedPoints
 pub mod Candidates
 pub mod Kept
+pub mod RightAnswers
 pub mod Walks

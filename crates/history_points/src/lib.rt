@@ -7,9 +7,13 @@ mod best;
 mod candidates;
 mod counting;
 mod kept;
+mod places;
 mod published;
+mod reached;
+mod right;
 mod searched;
 
 pub use asked::AskedPoint;
 pub use counting::operations;
 pub use published::points;
+pub use right::{RightAnswers, is_right};

@@ -13,23 +13,23 @@ use nrt_base::{Doc, NoMemory};
 use std::alloc::Global;
 use std::mem::replace;
 
-/// How many queries are kept at most.
+/// So many queries are always kept, and as many more as there are documents for each of them, since a query that was let go costs a walk over all documents.
 const MOST_KEPT: usize = 64;
 
 /// The texts that searches go over, and the queries that were asked of them, with their hits.
 #[derive(Drop)]
-pub struct Searched {
+pub struct SearchedTexts {
     texts: Texts,
     kept: Vec<KeptQuery>,
 }
 
-impl Searched {
+impl SearchedTexts {
     /// No texts.
     pub fn new(alloc: Global) -> Self
         ensures none { documents_in result.texts ≡ [] }
         ensures kept { IsSearched result }
     {
-        Searched {
+        SearchedTexts {
             texts: Texts::new(alloc),
             kept: Vec::new(alloc),
         }
@@ -43,7 +43,7 @@ impl Searched {
     {
         let texts = texts_of(alloc, docs)?;
         let kept = Vec::new(alloc);
-        Ok(Searched { texts, kept })
+        Ok(SearchedTexts { texts, kept })
     }
 
     /// Changes the documents as an operation says.
@@ -74,7 +74,8 @@ impl Searched {
         ensures texts { self.new.texts ≡ self.old.texts }
         ensures kept { IsSearched self.new }
     {
-        if self.kept.len() < MOST_KEPT {
+        let most = MOST_KEPT.max(self.texts.len() / MOST_KEPT);
+        if self.kept.len() < most {
             return;
         }
         self.kept.clear();

@@ -1,3 +1,2 @@
-mod HitLemmas
 mod ListingLemmas
 mod RuleLaws

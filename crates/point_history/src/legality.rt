@@ -1,9 +1,9 @@
 //! Whether a history is legal, and which entry is the first that breaks a rule.
 
-ghost use Rattle.std.specs.Prelude.{◌≡◌, ◌<◌, ◌+◌, ◌^◌, ◌∷◌, ◌↔◌, reverse, length, IfOk, OnOk, IsTrue};
+ghost use Rattle.std.specs.Prelude.{◌≡◌, ◌<◌, ◌+◌, ◌^◌, ◌∷◌, ◌↔◌, reverse, length, IfOk, IfSome, IsTrue};
 ghost use Rattle.history_rules.specs.Nodes.{accepted_count};
 ghost use Rattle.known_past.specs.Known.{IsKnown};
-ghost use Rattle.history_points.specs.AskedPoints.{IsAskedPoint};
+ghost use Rattle.history_points.specs.RightAnswers.{IsRightAnswer};
 ghost use Rattle.history_rules.specs.Legal.{KeepsRule, rule_number, IsVerdict};
 
 use crate::answers::may_answer;
@@ -15,7 +15,7 @@ use crate::rules::{
     may_plan, may_promote, may_publish, may_reopen, may_settle, may_start_commit, may_start_copy,
     may_start_merge, may_start_publish, may_start_settle, may_switch,
 };
-use history_points::AskedPoint;
+use history_points::RightAnswers;
 use history_rules::{Entry, Event, History, Verdict};
 use known_past::KnownPast;
 use nrt_base::NoMemory;
@@ -57,18 +57,18 @@ fn keeps(
     nodes: u8,
     before: &[Entry],
     known: &KnownPast,
-    asked: &mut AskedPoint,
+    told: Option<bool>,
     entry: &Entry,
 ) -> Result<bool, NoMemory>
     requires known { IsKnown (reverse before.now) known.now }
-    requires asked { IsAskedPoint (reverse before.now) asked.old }
+    requires told { IfSome told (λ right.
+        IsTrue right ↔ IsRightAnswer (reverse before.now) entry.now.event) }
     requires few { length before.now + 1 < 2 ^ 64 }
     requires few_accepted { accepted_count (reverse before.now) < 2 ^ 32 }
     ensures rule { IfOk result (λ kept. IsTrue kept ↔
         KeepsRule nodes (reverse before.now) entry.now.at entry.now.event) }
     ensures few { IfOk result (λ kept. IsTrue kept →
         accepted_count (entry.now ∷ reverse before.now) < 2 ^ 32) }
-    ensures asked { OnOk result (IsAskedPoint (reverse before.now) asked.new) }
 {
     let at = entry.at;
     Ok(match &entry.event {
@@ -92,7 +92,7 @@ fn keeps(
             query,
             answer,
         } => may_answer(
-            alloc, nodes, known, before, asked, at, *n, *t, *v, query, answer,
+            alloc, nodes, known, before, told, at, *n, *t, *v, query, answer,
         )?,
         Event::Closed { n, t } => may_close(nodes, known, before, at, *n, *t),
         Event::Committing { n, v } => may_start_commit(nodes, known, before, at, *n, *v),
@@ -118,22 +118,23 @@ fn keeps(
 
 /// Whether a history is legal, and else which entry is the first that breaks the rule of its kind.
 ///
-/// What its rule asks of the entries before an entry is looked up, but for a few rules that read these anew, and an answer, which reads the documents of its version.
+/// What its rule asks of the entries before an entry is looked up, but for a few rules that read these anew. Whether an answer is right is known before, of all
+/// answers together.
 pub fn legal(alloc: Global, h: &History) -> Result<Verdict, NoMemory>
     ensures { IfOk result (λ verdict. IsVerdict h.now verdict) }
 {
     let entries = h.entries.as_slice();
     let mut known = KnownPast::new(alloc);
-    let mut asked = AskedPoint::new(alloc);
+    let right = RightAnswers::of(alloc, entries)?;
     for (at, entry) in entries.iter().enumerate() {
         let before = &entries[..at];
-        if !keeps(alloc, h.nodes, before, &known, &mut asked, entry)? {
+        let told = right.told(entries, at);
+        if !keeps(alloc, h.nodes, before, &known, told, entry)? {
             return Ok(Verdict::Broken {
                 at,
                 rule: rule_number(&entry.event),
             });
         }
-        asked.take(&known, before, entry)?;
         known = known.after(before, entry)?;
     }
     Ok(Verdict::Legal)

@@ -1,8 +1,4 @@
-use Rattle.std.proofs.Common.{List, sym, subst}
-use Rattle.std.specs.Map.Iter.{deref_pair}
-use Rattle.documents.specs.declared.answer.Hit.{Hit}
-use Rattle.history_points.specs.Kept.{AreFirst}
-use Rattle.history_points.proofs.BestLaws.{hits_more, none_first}
+use Rattle.history_points.proofs.BestLaws.{passed_next, passed_all, none_first}
 use Rattle.history_points.proofs.best.best_of.Goals as goal
 
 pub loop-key-init : goal.loop-key-init
@@ -10,5 +6,10 @@ loop-key-init c = none_first _ c.new-best.ensures.items
 
 pub loop-key-preserved : goal.loop-key-preserved
 loop-key-preserved c =
-    subst (λ (hits : List Hit). AreFirst hits c.add_hit.new.best.items) (sym (hits_more deref_pair c.loop-key.yielded _))
-    (c.in_ok-add_hit.ensures _ c.loop-key.invariant)
+    passed_next c.loop-key.yielded c.into_iter-key-iterator.result c.loop-key.key-iterator c.next.new.self c.next.result (c.in-Some.key, c.in-Some.rank) c.loop-key.best.items c.add_hit.new.best.items
+    c.loop-key.yielded_by c.in-Some.is c.next.ensures.steps c.args.ranks.now c.into_iter-key-iterator.ensures.into_iter_gives.0 c.requires c.loop-key.invariant c.in_ok-add_hit.ensures
+
+pub returns : goal.returns
+returns c =
+    passed_all c.loop-key.yielded c.into_iter-key-iterator.result c.loop-key.key-iterator c.next.new.self c.next.result c.loop-key.best.items
+    c.loop-key.yielded_by c.in-None.is c.next.ensures.steps c.args.ranks.now c.into_iter-key-iterator.ensures.into_iter_gives.0 c.loop-key.invariant

@@ -1,7 +1,6 @@
-use Rattle.std.proofs.Common.{map}
-use Rattle.std.specs.Map.Iter.{deref_pair}
-use Rattle.history_points.specs.Kept.{hit_at, AreFirst}
+use Rattle.std.proofs.Common.{map, take, length}
+use Rattle.history_points.specs.Kept.{ranked_hit, AreFirst}
 use Rattle.history_points.proofs.best.best_of.Given as goal
 
 abbrev pub invariant-loop-key : goal.invariant-loop-key
-invariant-loop-key l = AreFirst (map hit_at (map deref_pair l.yielded)) l.best.items
+invariant-loop-key l = AreFirst (map ranked_hit (take (length l.yielded) l.ranks.entries)) l.best.items

@@ -3,8 +3,10 @@ use Rattle.history_rules.specs.Nodes.{Past, accepted_count}
 use Rattle.history_rules.specs.Legal.{IsLegalPast}
 use Rattle.history_rules.proofs.PastLemmas.{past_next}
 use Rattle.known_past.specs.Known.{IsKnown}
-use Rattle.history_points.specs.AskedPoints.{IsAskedPoint}
 use Rattle.point_history.proofs.legality.legal.Goals as goal
+
+pub keeps-requires-clause-told : goal.keeps-requires-clause-told
+keeps-requires-clause-told c = c.told-told.ensures c.index-entries-at.result c.index-entries-at.is
 
 pub loop-at-preserved : goal.loop-at-preserved
 loop-at-preserved c =
@@ -16,6 +18,5 @@ loop-at-preserved c =
     record {
       legal = subst (IsLegalPast c.args.h.now.nodes) (sym next) (c.in_ok-keeps.ensures.rule.0 kept, c.loop-at.invariant.legal);
       known = subst (λ (past : Past). IsKnown past c.in_ok-known.known) (sym next) c.in_ok-known.ensures;
-      asked = subst (λ (past : Past). IsAskedPoint past c.take.new.self) (sym next) c.in_ok-take.ensures;
       few = subst (λ (past : Past). accepted_count past < 2 ^ 32) (sym next) (c.in_ok-keeps.ensures.few kept);
     }

@@ -1,7 +1,7 @@
 use Rattle.std.proofs.Common.{reverse}
 use Rattle.std.proofs.lemmas.Result.{on_ok_weaker}
 use Rattle.history_points.proofs.AskedLaws.{published_places}
-use Rattle.history_points.proofs.asked.note_point.Goals as goal
+use Rattle.history_points.proofs.places.note_point.Goals as goal
 
 pub returns-in-Published : goal.returns-in-Published
 returns-in-Published c =

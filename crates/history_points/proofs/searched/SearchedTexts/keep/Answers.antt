@@ -1,6 +1,6 @@
 use Rattle.std.proofs.Common.{refl}
 use Rattle.history_points.proofs.KeptLaws.{one_kept}
-use Rattle.history_points.proofs.searched.Searched.keep.Goals as goal
+use Rattle.history_points.proofs.searched.SearchedTexts.keep.Goals as goal
 
 pub returns-clause-kept : goal.returns-clause-kept
 returns-clause-kept c =

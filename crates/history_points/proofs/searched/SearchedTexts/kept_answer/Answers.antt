@@ -2,7 +2,7 @@ use Rattle.std.proofs.Common.{sym, subst}
 use Rattle.documents.specs.Documents.{documents_in}
 use Rattle.history_points.specs.Kept.{KeepAllHits}
 use Rattle.history_points.proofs.KeptLaws.{told_there, texts_ascend}
-use Rattle.history_points.proofs.searched.Searched.kept_answer.Goals as goal
+use Rattle.history_points.proofs.searched.SearchedTexts.kept_answer.Goals as goal
 
 pub returns-in-Some : goal.returns-in-Some
 returns-in-Some c =

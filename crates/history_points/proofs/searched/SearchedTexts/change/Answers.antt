@@ -1,7 +1,7 @@
 use Rattle.std.proofs.Common.{Vec, Global, ap}
 use Rattle.history_points.specs.declared.kept.KeptQuery.{KeptQuery}
 use Rattle.history_points.proofs.KeptLaws.{all_followed}
-use Rattle.history_points.proofs.searched.Searched.change.Goals as goal
+use Rattle.history_points.proofs.searched.SearchedTexts.change.Goals as goal
 
 pub returns-clause-kept : goal.returns-clause-kept
 returns-clause-kept c =

@@ -3,7 +3,7 @@ use Rattle.std.specs.Prelude.{reverse}
 use Rattle.documents.specs.Documents.{documents_in, documents_after}
 use Rattle.history_rules.specs.Points.{operations_written}
 use Rattle.history_points.specs.Kept.{IsSearched}
-use Rattle.history_points.proofs.asked.go_on.Given as goal
+use Rattle.history_points.proofs.reached.go_on.Given as goal
 
 abbrev pub invariant-loop-i : goal.invariant-loop-i
 invariant-loop-i l =

@@ -1,6 +1,6 @@
 use Rattle.std.proofs.Common.{reverse}
 use Rattle.history_points.proofs.AskedLaws.{one_written}
-use Rattle.history_points.proofs.asked.write.Goals as goal
+use Rattle.history_points.proofs.reached.write.Goals as goal
 
 pub returns-in_ok-change-in-Accepted-clause-texts : goal.returns-in_ok-change-in-Accepted-clause-texts
 returns-in_ok-change-in-Accepted-clause-texts c = λ taken.
