@@ -1,3 +1,4 @@
+use Rattle.std.proofs.Common.{refl}
 use Rattle.cluster_sends.proofs.SendPaths.{primary_slot, primary_there, replica_slot, replica_there, both_taken}
 use Rattle.cluster_sends.proofs.sends.both_of.Goals as goal
 
