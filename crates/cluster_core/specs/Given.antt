@@ -5,3 +5,4 @@ pub use Rattle.cluster_merges.specs.TaskCalls.{CutTurns, DrainTurns, MergeLine, 
 pub use Rattle.cluster_recovery.specs.Crashes.{CrashTells}
 pub use Rattle.cluster_recovery.specs.Planning.{PlansFault}
 pub use Rattle.cluster_recovery.specs.PromoteCalls.{promote_event}
+pub use Rattle.cluster_recovery.specs.Promotions.{PromoteTells}

@@ -1,6 +1,6 @@
 -- How a line accepts again, behind its promotion, what is due.
 use Rattle.std.proofs.Common.{◌≡◌, ◌&&◌, ◌≤◌, ◌<◌, ◌⊎◌, suc, drop-cons, get_or, inl, inr, arith, ◌+◌, ◌∷◌, ◌++◌, ℕ, Bool, true, List, [], Option, Some, None, refl, ap, ◌∙◌, sym, subst, if◌then◌else◌, drop, length, reverse}
-use Rattle.std.specs.Prelude.{Result, Ok, Err, OnErr, is_some}
+use Rattle.std.specs.Prelude.{Result, Ok, Err, OnOk, OnErr, is_some}
 use Rattle.std.specs.Option.{option_map}
 use Rattle.std.proofs.lemmas.Bool.{or_right}
 use Rattle.std.proofs.lemmas.List.{drop_all, reverse-append}
@@ -21,6 +21,9 @@ use Rattle.script_serving.specs.declared.script.LineCommand.TheVariants.{Promote
 use Rattle.script_serving.specs.Replays.{logged_operations, replay_due, due}
 use Rattle.lane_threads.specs.Owes.{SuitsOrReplays, GoesByLine}
 use Rattle.trans_log.specs.declared.record.LogOp.{LogOp}
+use Rattle.disk_model.specs.Disk.{Name}
+use Rattle.disk_model.specs.Faults.{Plans}
+use Rattle.cluster_state.specs.Run.{Run, KeepsRest}
 use Rattle.cluster_site.specs.Sites.{operations_in}
 use Rattle.cluster_site.specs.Replays.{with_accepted, version_promoted, newest_promoted, LacksBehind, Lacks, MayAcceptAgain, OwesRecords, OwesLacking, ReplaysTo, AcceptsRecords, AcceptsLacking}
 
@@ -30,6 +33,13 @@ some_none x is = absurd (cc)
 pub on_err : {X E : Type 0} {P : Type 0} (r : Result X E) → P → OnErr r P
 on_err (Ok x) p = tt
 on_err (Err e) p = p
+
+-- what callers are told beside the log is as before, as what was planned for disks and met and the names of files are too
+pub rest_same : {X E : Type 0} (r : Result X E) (old new : Run) → OnOk r (KeepsRest old new) → OnOk r (new.rest.plans ≡ old.rest.plans) → OnOk r (new.rest.names ≡ old.rest.names) → OnOk r (new.rest ≡ old.rest)
+rest_same (Ok x) old new kept plans names =
+    let both : ◌≡◌ {A = List Plans × List (List Name)} (new.rest.plans, new.rest.names) (old.rest.plans, old.rest.names) = λ i. (plans i, names i) in
+    kept ∙ ap (λ (z : List Plans × List (List Name)). record old.rest { plans = z.0; names = z.1 }) both
+rest_same (Err e) old new kept plans names = tt
 
 -- ---- one operation more
 

@@ -15,9 +15,11 @@ use Rattle.script_serving.specs.Replays.{logged_operations, replay_due, due}
 use Rattle.script_serving.specs.Serves.{is_newest_at}
 use Rattle.trans_log.specs.declared.record.LogOp.{LogOp}
 use Rattle.lane_threads.specs.Owes.{GoesByLine}
-use Rattle.cluster_state.specs.Run.{Run}
+use Rattle.disk_model.specs.Disk.{Cells}
+use Rattle.script_serving.specs.Refusals.{refusal}
+use Rattle.cluster_state.specs.Run.{Run, IsNow}
 use Rattle.cluster_state.specs.GivesUp.{met_log}
-use Rattle.cluster_core.specs.Given.{promote_event}
+use Rattle.cluster_core.specs.Given.{PromoteTells, promote_event}
 use Rattle.cluster_site.specs.Sites.{operations_in}
 
 -- the version of the point that an event promotes a node to
@@ -71,6 +73,14 @@ with_replay at logged log = with_accepted at (due logged (printed log)) log
 -- due to be accepted again
 abbrev pub with_promotion : At → NodeNo → Force → Bool → Run → Run → Log
 with_promotion at n force logged old new = with_replay at logged (shown at (promote_event at.lane.0 n force (printed old.log)) ∷ met_log at old new)
+
+-- What callers are told beside the log, behind a line that promotes a node at a cluster that may have a log: just what they are told behind the
+-- promotion alone, as operations that are accepted again change none of it.
+pub record PromotesThen {D : Type 0} (cells : D → Cells) (at : At) (n : NodeNo) (force : Force) (old new : Run) : Type 0 where
+  pub mid : Run
+  pub behind : IsNow old mid (shown at (promote_event at.lane.0 n force (printed old.log)) ∷ met_log at old mid)
+  pub tells : PromoteTells cells (refusal (Promote n force) at.lane.0 (printed old.log)) n.0 old mid
+  pub rest : new.rest ≡ mid.rest
 
 -- since this log the line of a promotion has accepted again, and these operations are left of what was due there
 pub record ReplaysTo (at : At) (base now : Log) (left : List Op) : Type 0 where

@@ -17,7 +17,7 @@ impl<D: FaultDir + Drop> Site<D> {
     ghost use Rattle.cluster_state.specs.Run.{IsNow};
     ghost use Rattle.cluster_core.specs.Doing.{IsReplied};
     ghost use Rattle.cluster_site.specs.Sites.{DoesAtSite, is_logged};
-    ghost use Rattle.cluster_site.specs.Replays.{with_promotion};
+    ghost use Rattle.cluster_site.specs.Replays.{with_promotion, PromotesThen};
 
     /// Promotes a node that runs, where no primary does. With a log the line then accepts again, in order, what the log has and the node's
     /// point lacks.
@@ -33,6 +33,7 @@ impl<D: FaultDir + Drop> Site<D> {
         requires node { IsNode self.old.run.nodes n.0 }
         ensures ok { OnOk result (IsNow self.old.run self.new.run
             (with_promotion at n force (is_logged self.old) self.old.run self.new.run)) }
+        ensures rest { OnOk result (PromotesThen D.cells at n force self.old.run self.new.run) }
         ensures err { OnErr result (self.new.run.ended ≡ true) }
         ensures nodes { self.new.run.nodes ≡ self.old.run.nodes }
 

@@ -128,7 +128,7 @@ fn accept_one<D: FaultDir + Drop>(
     requires may { MayAcceptAgain at (printed cluster.old.log) }
     ensures ok { OnOk result (IsNow cluster.old cluster.new (shown at
         (Event.Accepted (accepted_count (printed cluster.old.log) + 1) op.now) ∷ cluster.old.log)) }
-    ensures plans { OnOk result (cluster.new.rest.plans ≡ cluster.old.rest.plans) }
+    ensures rest { OnOk result (cluster.new.rest ≡ cluster.old.rest) }
     ensures err { OnErr result (IsEnded cluster.old cluster.new) }
 {
     match op.share(alloc) {
@@ -152,7 +152,7 @@ fn replay<D: FaultDir + Drop>(
     ensures running { OnOk result (cluster.new.ended ≡ false) }
     ensures ended { OnErr result (cluster.new.ended ≡ true) }
     ensures nodes { cluster.new.nodes ≡ cluster.old.nodes }
-    ensures plans { OnOk result (cluster.new.rest.plans ≡ cluster.old.rest.plans) }
+    ensures rest { OnOk result (cluster.new.rest ≡ cluster.old.rest) }
     ensures done { OnOk result (ReplaysTo at cluster.old.log cluster.new.log []) }
     ensures goes { OnErr result ((n : NodeNo) (force : Force)
         → GoesByLine true (Promote n force) at cluster.old.log cluster.new.log) }
@@ -178,7 +178,7 @@ pub fn accept_lacking<D: FaultDir + Drop>(
     ensures nodes { cluster.new.nodes ≡ cluster.old.nodes }
     ensures running { OnOk result (cluster.new.ended ≡ false) }
     ensures ended { OnErr result (cluster.new.ended ≡ true) }
-    ensures plans { OnOk result (cluster.new.rest.plans ≡ cluster.old.rest.plans) }
+    ensures rest { OnOk result (cluster.new.rest ≡ cluster.old.rest) }
     ensures done { OnOk result (AcceptsLacking at cluster.old.log cluster.new.log
         (records_of log.old)) }
     ensures goes { OnErr result ((n : NodeNo) (force : Force)

@@ -9,7 +9,7 @@ pub loop-entry-preserved : goal.loop-entry-preserved
 loop-entry-preserved g c = record {
   running = c.in_ok-accept_one.ensures.ok.running;
   nodes = c.in_ok-accept_one.ensures.ok.nodes ∙ c.loop-entry.invariant.nodes;
-  plans = c.in_ok-accept_one.ensures.plans ∙ c.loop-entry.invariant.plans;
+  rest = c.in_ok-accept_one.ensures.rest ∙ c.loop-entry.invariant.rest;
   replays = replays_next c.args.at c.args.cluster.now.log c.loop-entry.cluster.log c.accept_one.new.cluster.log c.args.records.now c.loop-entry.entry-index c.entry-item.result c.loop-entry-test.true c.entry-item.is c.loop-entry.invariant.replays
       c.in_ok-accept_one.ensures.ok.log;
 }

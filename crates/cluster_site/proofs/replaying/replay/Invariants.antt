@@ -8,6 +8,6 @@ abbrev pub invariant-loop-entry : goal.invariant-loop-entry
 invariant-loop-entry g l = record {
   running : l.cluster.ended ≡ false;
   nodes : l.cluster.nodes ≡ l.initial.cluster.nodes;
-  plans : l.cluster.rest.plans ≡ l.initial.cluster.rest.plans;
+  rest : l.cluster.rest ≡ l.initial.cluster.rest;
   replays : ReplaysTo l.at l.initial.cluster.log l.cluster.log (operations_in (drop l.entry-index l.records));
 }

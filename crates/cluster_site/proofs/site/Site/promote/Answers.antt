@@ -1,6 +1,10 @@
-use Rattle.std.proofs.Common.{◌∙◌, ap}
+use Rattle.std.proofs.Common.{◌≡◌, ◌∙◌, ap, subst}
+use Rattle.std.specs.Prelude.{OnOk}
+use Rattle.std.proofs.lemmas.Result.{on_ok_weaker}
+use Rattle.cluster_state.specs.Run.{Rest}
 use Rattle.script_serving.specs.declared.script.LineCommand.TheVariants.{Promote}
 use Rattle.cluster_site.specs.Sites.{SiteRun}
+use Rattle.cluster_site.specs.Replays.{PromotesThen}
 use Rattle.cluster_site.proofs.Stands.{runs_was, ended_stands}
 use Rattle.cluster_site.proofs.Promotions.{ended_goes, promoted_owes, promoted_goes, promoted_stands, promoted_does, promoted_replied, promoted_whole, promoted_nodes}
 use Rattle.cluster_site.proofs.site.Site.promote.Goals as goal
@@ -32,7 +36,13 @@ invariant_of-self-2 g c =
 pub returns-clause-ok : goal.returns-clause-ok
 returns-clause-ok g c =
     promoted_whole g.D.Dir.cells g.D.Dir.plans c.args.n c.args.force c.args.at c.self.inside.cluster c.promote.new.self c.accept_lacking.new.cluster c.self.inside.log c.args.self.now c.self.view_is c.requires.running c.requires.fresh c.self.invariant c.in_ok-promote.ensures.ok
-    c.accept_lacking.ensures.nodes c.in_ok-promote.ensures.replied c.accept_lacking.result c.accept_lacking.ensures.running c.accept_lacking.ensures.plans c.accept_lacking.ensures.done
+    c.accept_lacking.ensures.nodes c.in_ok-promote.ensures.replied c.accept_lacking.result c.accept_lacking.ensures.running (on_ok_weaker c.accept_lacking.result (λ (same : c.accept_lacking.new.cluster.rest ≡ c.promote.new.self.rest). ap (λ (t : Rest). t.plans) same) c.accept_lacking.ensures.rest) c.accept_lacking.ensures.done
+
+pub returns-clause-rest : goal.returns-clause-rest
+returns-clause-rest g c =
+    subst (λ (s : SiteRun). OnOk c.accept_lacking.result (PromotesThen g.D.Dir.cells c.args.at c.args.n c.args.force s.run c.accept_lacking.new.cluster)) c.self.view_is
+    (on_ok_weaker c.accept_lacking.result
+    (λ (same : c.accept_lacking.new.cluster.rest ≡ c.promote.new.self.rest). record { mid = c.promote.new.self; behind = c.in_ok-promote.ensures.ok; tells = c.in_ok-promote.ensures.rest; rest = same }) c.accept_lacking.ensures.rest)
 
 pub returns-clause-nodes : goal.returns-clause-nodes
 returns-clause-nodes g c =
