@@ -33,7 +33,7 @@ pub record Answers (bytes : List ℕ) (before after : Option (List ℕ)) : Type 
   pub written : Appends before after (text_of history)
 
 -- the cluster has run the script that the bytes are: it has not ended, its history is legal and serves the script, and each printed
--- entry tells what is so of inner work, an answer `none` to a publish too, and each merge takes the first range that is due
+-- entry tells what is so of inner work, an answer `none` to a publish too, and each merge takes the first range that is due by the sizes in its entry
 pub record HasRun (bytes : List ℕ) (r : Run) : Type 0 where
   pub script : Script
   pub grammar : SpellsScript bytes script

@@ -20,7 +20,7 @@ abbrev pub IsLoad : List (List ℕ) → Type 0
 IsLoad = AreNameAndSome (codes "load") 10000
 
 -- the cluster has run the script of n documents: it has not ended, its history is legal and serves the script, and each printed entry
--- tells what is so of inner work, an answer `none` to a publish too, and each merge takes the first range that is due
+-- tells what is so of inner work, an answer `none` to a publish too, and each merge takes the first range that is due by the sizes in its entry
 pub record HasLoaded (n : ℕ) (r : Run) : Type 0 where
   pub running : r.ended ≡ false
   pub legal : IsLegal (history_of r)
