@@ -1,5 +1,5 @@
 -- What a promotion does where there may be a log: its own entry, and then what is accepted again.
-use Rattle.std.proofs.Common.{◌≡◌, ◌+◌, ◌∷◌, ◌++◌, ◌||◌, ℕ, Bool, true, false, List, [], Option, Some, None, refl, ap, ◌∙◌, sym, subst, true≢false, drop, length, map}
+use Rattle.std.proofs.Common.{◌≡◌, ◌≢◌, ◌+◌, ◌∷◌, ◌++◌, ◌||◌, ℕ, Bool, true, false, List, [], Option, Some, None, refl, ap, ◌∙◌, sym, subst, true≢false, drop, length, map}
 use Rattle.std.specs.Prelude.{Result, Ok, Err, OnOk, OnErr, is_some}
 use Rattle.std.proofs.lemmas.List.{drop-map}
 use Rattle.nrt_base.specs.declared.numbers.At.{At}
