@@ -4,7 +4,7 @@ ghost use denote.Param.Send.{IsSend};
 ghost use Rattle.history_book.specs.contracts.book.Book as book;
 ghost use Rattle.merge_tasks.specs.contracts.ledger.Ledger as ledger;
 
-use history_book::Stop;
+use history_book::{Inner, Stop};
 use history_rules::Entry;
 use history_tables::{JobTable, Lines, NodeRow, Numbers, Tickets};
 use lane_threads::crossing::entry_crosses;
@@ -21,6 +21,7 @@ pub fn book_crosses()
 {
     entry_crosses();
     sent::<Vec<Entry>>();
+    sent::<Vec<Inner>>();
     sent::<Vec<Stop>>();
     sent::<Numbers>();
     sent::<Vec<NodeRow>>();
