@@ -1,5 +1,5 @@
 -- Nodes that are taken out of their places and put back.
-use Rattle.std.proofs.Common.{◌≡◌, ◌≢◌, ◌==◌, ℕ, ◌≤◌, Bool, true, false, List, Some, None, Option, is_some, Vec, Global, refl, ap, ◌∙◌, sym, subst, if◌then◌else◌, length}
+use Rattle.std.proofs.Common.{◌≡◌, ◌≢◌, ◌==◌, ℕ, arith, ◌≤◌, Bool, true, false, List, Some, None, Option, is_some, Vec, Global, refl, ap, ◌∙◌, sym, subst, if◌then◌else◌, length}
 use Rattle.std.specs.Prelude.{IfSome, IfOk, OnOk}
 use Rattle.std.proofs.lemmas.Bool.{eqb-true, eq-eqb}
 use Rattle.std.proofs.lemmas.Option.{same_Some}
@@ -24,14 +24,6 @@ use Rattle.cluster_nodes.specs.JobPlaces.{StandThere, HoldsOfBoth, AreBoth, Move
 use Rattle.cluster_nodes.specs.declared.went.Went.{Went}
 use Rattle.cluster_nodes.specs.declared.went.Went.TheVariants.{Done, Failed}
 use Rattle.cluster_nodes.specs.Went.{ByWent}
-
--- two numbers differ both ways
-apart_turned : (p n : ℕ) → (p == n) ≡ false → (n == p) ≡ false
-apart_turned p n apart = tests (n == p) refl
-  where
-    tests : (b : Bool) → (n == p) ≡ b → (n == p) ≡ false
-    tests true here = ap (λ (k : ℕ). k == p) (eqb-true n p here) ∙ (ap (λ (k : ℕ). p == k) (sym (eqb-true n p here)) ∙ apart)
-    tests false away = away
 
 module _ {D : Type 0} where
   pub primary_some : (o : Option (NodePlace D)) → HasPrimary o → o ≢ None
@@ -189,7 +181,10 @@ module _ {D : Type 0} where
 
     module _ (p : ℕ) (stand : StandThere p n old) where
       primary_still : place_of back p ≡ place_of old p
-      primary_still = put_back.there p ∙ ap (λ (b : Bool). if b then Some (record { node = Replica s; held = held }) else place_of old p) (apart_turned p n stand.apart)
+      primary_still =
+          let apart = stand.apart in
+          let turned : (n == p) ≡ false = grind arith in
+          put_back.there p ∙ ap (λ (b : Bool). if b then Some (record { node = Replica s; held = held }) else place_of old p) turned
 
       -- its job can be stopped then
       pub may_stop_back : s ≡ record r { dir = s.dir; files = s.files } → HoldsOfBoth MayStop p n old → CanStop p n back
