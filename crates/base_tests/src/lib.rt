@@ -17,6 +17,8 @@ mod picks;
 #[cfg(test)]
 mod postings;
 #[cfg(test)]
+mod ranges;
+#[cfg(test)]
 mod scans;
 #[cfg(test)]
 mod sentences;

@@ -3,7 +3,7 @@
 ghost use Rattle.std.specs.Prelude.{IsTrue};
 ghost use Rattle.nrt_base.specs.Bytes.{is_key, is_text};
 
-use documents::{Answer, Op, Query, apply, scan};
+use documents::{Answer, Op, apply, scan};
 use nrt_base::{Doc, Key, NoMemory, Text, Word};
 use std::alloc::Global;
 use std::test::Fail;
@@ -33,28 +33,6 @@ fn a_drop_takes_away_what_has_its_word(rt: HostRuntime) -> Result<(), Fail> {
     assert_eq!(rt; docs[0].key.as_slice(), b"a".as_slice());
     assert_eq!(rt; docs[0].text.as_slice(), b"y".as_slice());
     assert_eq!(rt; docs[1].key.as_slice(), b"x".as_slice());
-    Ok(())
-}
-
-#[test]
-fn a_scan_counts_all_and_lists_the_best_twenty(rt: HostRuntime) -> Result<(), Fail> {
-    let alloc = rt.alloc();
-    let mut docs = Vec::new(alloc);
-    for i in 0..25 {
-        docs.push(doc(alloc, &[b'a' + i], b"red fox")?)?;
-    }
-    docs.push(doc(alloc, b"z", b"fox fox")?)?;
-    assert_eq!(rt; docs.len(), 26);
-    let fox = Query::Word(Word::new(alloc, b"fox")?);
-    let answer = scan(alloc, docs.as_slice(), &fox)?;
-    let hits = answer.hits.into_vec();
-    assert_eq!(rt; answer.total, 26);
-    assert_eq!(rt; hits.len(), 20);
-    assert_eq!(rt; hits[0].key.as_slice(), b"z".as_slice());
-    assert_eq!(rt; hits[0].rank, 2);
-    assert_eq!(rt; hits[1].key.as_slice(), b"a".as_slice());
-    assert_eq!(rt; hits[19].key.as_slice(), b"s".as_slice());
-    assert_eq!(rt; hits[19].rank, 1);
     Ok(())
 }
 

@@ -6,6 +6,7 @@ pub mod CopyRows
 mod DueLines
 mod Ending
 mod Failing
+mod FarPlans
 mod HandPaths
 mod Handing
 mod JobEnds
@@ -14,6 +15,7 @@ mod KeptJobs
 mod Leaving
 mod MetLines
 mod PartPaths
+mod SendPaths
 mod Settling
 mod TakingOver
 mod TransferMerges

@@ -1,7 +1,7 @@
 //! The calls of lines that search, of those that open and close tickets, and of those that list files.
 
 use crate::cluster::Cluster;
-use cluster_search::{
+use cluster_documents::{
     answer_end, ask_start, documents_of, files, search_start, ticket_close, ticket_open,
 };
 use cluster_state::Turn;

@@ -3,7 +3,7 @@
 ghost use Rattle.std.specs.Prelude.{◌≡◌, ◌+◌, ◌<◌, ◌^◌};
 
 use crate::cluster::Cluster;
-use cluster_publish::{accept, accept_again, publish_end, publish_start};
+use cluster_documents::{accept, accept_again, publish_end, publish_start};
 use cluster_state::Turn;
 use disk_model::FaultDir;
 use documents::Op;

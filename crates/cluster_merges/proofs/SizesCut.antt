@@ -1,6 +1,7 @@
 -- The sizes of the primary's segments where a merge is cut over.
 use Rattle.std.proofs.Common.{◌≡◌, ◌≢◌, ◌<◌, ◌==◌, ◌||◌, ◌++◌, ◌∷◌, [], ℕ, zero, suc, Bool, true, false, List, map, length, not, nat_lt, Some, None, Option, refl, ap, ◌∙◌, sym, subst, arith, if◌then◌else◌}
 use Rattle.std.specs.List.{All, AllByRecursion, AllZip, list_any, zip}
+use Rattle.std.proofs.Math.Bool.{or_assoc, or_comm}
 use Rattle.std.proofs.lemmas.Bool.{ne_eqb, lt-ltb}
 use Rattle.std.proofs.lemmas.List.{length-map, map-append}
 use Rattle.std.proofs.lemmas.List.Elements.{Contains-append_right}
@@ -41,11 +42,6 @@ use Rattle.cluster_merges.proofs.StandSteps.{merge_numbered}
 
 -- ---- the inputs of merges
 
-swapped : (a b c : Bool) → (a || (b || c)) ≡ (b || (a || c))
-swapped true true c = refl
-swapped true false c = refl
-swapped false b c = refl
-
 -- those of one and those of the others
 inputs_split : (test : SegNo → Bool) (seg : ℕ) (ms : List Merging) (m : Merging) → merge_of seg ms ≡ Some m → list_any test (merge_inputs ms) ≡ (list_any test m.inputs || list_any test (merge_inputs (merges_without seg ms)))
 inputs_split test seg [] m is = absurd (cc)
@@ -55,9 +51,12 @@ inputs_split test seg (x ∷ ms) m is = list_any-append test x.inputs (merge_inp
         → (list_any test x.inputs || list_any test (merge_inputs ms)) ≡ (list_any test m.inputs || list_any test (merge_inputs (if t then ms else x ∷ merges_without seg ms)))
     by true more is = let same : ◌≡◌ {A = Merging} x m = cc in ap (λ (y : Merging). list_any test y.inputs || list_any test (merge_inputs ms)) same
     by false more is =
-        ap (λ (b : Bool). list_any test x.inputs || b) (more is)
-        ∙ (swapped (list_any test x.inputs) (list_any test m.inputs) (list_any test (merge_inputs (merges_without seg ms)))
-        ∙ ap (λ (b : Bool). list_any test m.inputs || b) (sym (list_any-append test x.inputs (merge_inputs (merges_without seg ms)))))
+        let first : Bool = list_any test x.inputs in
+        let its : Bool = list_any test m.inputs in
+        let others : Bool = list_any test (merge_inputs (merges_without seg ms)) in
+        ap (λ (b : Bool). first || b) (more is)
+        ∙ (sym (or_assoc first its others) ∙ (ap (λ (b : Bool). b || others) (or_comm first its) ∙ (or_assoc its first others
+        ∙ ap (λ (b : Bool). its || b) (sym (list_any-append test x.inputs (merge_inputs (merges_without seg ms)))))))
 
 -- a number of no record is none of them
 no_part : (n : ℕ) (inputs : List SegNo) (rs : List SegRecord) (ss : List Shown) → All (λ r. r.seg.0 ≢ n) rs → list_any (λ g. g.0 == n) (map (λ (x : Part). x.0.seg) (inputs_in inputs (zip rs ss))) ≡ false

@@ -57,10 +57,12 @@ pub fn start_merge<D: FaultDir + Drop>(
     let task = match ask_in(alloc, &mut cluster.places, p, factor) {
         Ok(Some(task)) => task,
         Ok(None) => {
+            drop(sizes);
             cluster.ended = false;
             return Ok(Some(Cause::Nothing));
         }
         Err(fault) => {
+            drop(sizes);
             let cause = none_starts(fault)?;
             cluster.ended = false;
             return Ok(Some(cause));

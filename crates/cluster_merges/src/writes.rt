@@ -163,10 +163,12 @@ fn ready_there<D: FaultDir + Drop>(
             let copy = share_state(alloc, &state)?;
             tasks.write(alloc, seg, state);
             let sent = send_all(alloc, tasks, places, seg, &copy, nodes)?;
+            drop(copy);
             tasks.post(seg, line)?;
             tasks.count(by)?;
             show_task_met(ledger, at, before, places)?;
             note_begun(ledger, line, sent.as_slice());
+            drop(sent);
             ledger.keep(Inner::TaskEnd {
                 line,
                 seg,

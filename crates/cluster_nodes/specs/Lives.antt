@@ -1,20 +1,13 @@
 -- What a crash, and a reopening, make of a node in its place.
-use Rattle.std.specs.Prelude.{ℕ, ◌≡◌, [], List, Option, Some, Vec, Contains, IsSomeAnd}
+use Rattle.std.specs.Prelude.{ℕ, ◌≡◌, [], List, Option, Some, Vec, IsSomeAnd}
 use Rattle.std.specs.Global.{Global}
-use Rattle.std.specs.List.{flat_map}
 use Rattle.nrt_base.specs.Causes.{Rose}
-use Rattle.nrt_base.specs.declared.doc.Doc.{Doc}
 use Rattle.nrt_base.specs.declared.numbers.Version.{Version}
-use Rattle.disk_model.specs.Disk.{Name, Content, Cells, Image, HasCrashed, restarted, reads_of}
+use Rattle.disk_model.specs.Disk.{Cells, Image, HasCrashed, restarted}
 use Rattle.disk_model.specs.Faults.{Plans, ended}
-use Rattle.segment_infos.specs.Files.{files_of_segment}
-use Rattle.seg_reader.specs.Stands.{StandsFor}
-use Rattle.replica_opening.specs.Opening.{FindsPoint, number_of_last}
 use Rattle.replica_opening.specs.Opened.{IsHandedBack}
 use Rattle.replica_node.specs.declared.parts.ReplicaParts.{ReplicaParts}
-use Rattle.replica_node.specs.Replica.{IsWholeReplica}
-use Rattle.replica_node.specs.Sources.{IsSourced}
-use Rattle.replica_node.specs.Starting.{IsJustOpened, SearchesJust, HasJustItsFiles}
+use Rattle.replica_node.specs.Starting.{OpensOn}
 use Rattle.cluster_nodes.specs.declared.held.HeldTicket.{HeldTicket}
 use Rattle.cluster_nodes.specs.declared.nodes.Node.TheVariants.{Replica, Down}
 use Rattle.cluster_nodes.specs.declared.nodes.NodePlace.{NodePlace}
@@ -39,16 +32,6 @@ module _ {D : Type 0} where
   -- the node's directory is what a crash with this number leaves of it
   abbrev pub CrashesByPick : (D → Cells) → (D → ℕ → Image) → (n pick : ℕ) → List (Option (NodePlace D)) → List (Option (NodePlace D)) → Type 0
   CrashesByPick cells leaves n pick old new = IsSomeAnd (place_of old n) (λ x. IsSomeAnd (place_of new n) (λ y. cells (dir_of y.node) ≡ restarted (leaves (dir_of x.node) pick)))
-
-  -- a replica opened on a directory: it stands at the point that this shows, and nothing was done with it
-  pub record OpensOn (cells : D → Cells) (dir : D) (r : ReplicaParts D) : Type 0 where
-    pub whole : IsWholeReplica cells r
-    pub point : FindsPoint (reads_of (cells dir)) (number_of_last r.commits.last) r.infos
-    pub documents : (docs : List Doc) → StandsFor (reads_of (cells dir)) r.infos docs → SearchesJust cells docs r
-    pub sourced : (source : Name → Content) → ((q : Name) → Contains (flat_map files_of_segment r.infos.segs) q → (cells dir q).now ≡ source q) → IsSourced source cells r
-    pub fresh : IsJustOpened r
-    pub back : IsHandedBack (cells dir) (cells r.dir)
-    pub only : HasJustItsFiles cells r
 
   -- the node that was down opened on its directory, at this version; what was held of it is held
   pub record ReopensIn (cells : D → Cells) (n : ℕ) (v : Version) (old new : List (Option (NodePlace D))) : Type 0 where

@@ -1,6 +1,7 @@
 //! Whether a call of a node found its disk failed, or no memory.
 
 ghost use Rattle.std.specs.Prelude.{◌≡◌, OnOk};
+ghost use Rattle.copy_job.specs.Placing.{IsPlacingFault};
 
 use commit_steps::CommitFault;
 use copy_job::JobFault;
@@ -20,14 +21,15 @@ pub fn is_failed(fault: PrimaryFault) -> Result<(), NoMemory>
 
 /// The replica's disk failed, or no memory was found.
 pub fn is_dir_failed(fault: JobFault) -> Result<(), NoMemory>
+    requires { IsPlacingFault fault }
     ensures { OnOk result (fault ≡ JobFault.DirFailed) }
 {
     match fault {
         JobFault::DirFailed => Ok(()),
         JobFault::Memory => Err(AllocError),
-        JobFault::LinkFailed => Err(AllocError),
-        JobFault::Damaged { .. } => Err(AllocError),
-        JobFault::NameClash { .. } => Err(AllocError),
+        JobFault::LinkFailed => unreachable!(),
+        JobFault::Damaged { .. } => unreachable!(),
+        JobFault::NameClash { .. } => unreachable!(),
     }
 }
 

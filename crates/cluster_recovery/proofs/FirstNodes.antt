@@ -9,7 +9,7 @@ use Rattle.file_names.specs.Names.{commit_name_of}
 use Rattle.nrt_base.specs.declared.doc.Doc.{Doc}
 use Rattle.nrt_base.specs.declared.numbers.Gen.{Gen}
 use Rattle.nrt_base.specs.declared.numbers.Version.{Version}
-use Rattle.disk_model.specs.Disk.{Name, Content, Cells, reads_of}
+use Rattle.disk_model.specs.Disk.{Name, Cells, reads_of}
 use Rattle.file_deleter.specs.Holdings.{times, count_of}
 use Rattle.seg_reader.specs.Shown.{Shown}
 use Rattle.seg_reader.specs.Stands.{StandsFor, StandsWith, AreSegmentsOf}
@@ -32,14 +32,13 @@ use Rattle.commit_steps.specs.Found.{ShowsCommit}
 use Rattle.commit_steps.specs.declared.states.Commit.{Commit}
 use Rattle.commit_steps.specs.declared.stage.CommitBook.{CommitBook}
 use Rattle.commit_steps.specs.declared.stage.Stage.{Stage}
-use Rattle.replica_opening.specs.Opening.{opening_infos, CanOpen, FindsPoint, number_of_last}
+use Rattle.replica_opening.specs.Opening.{opening_infos, FindsPoint, number_of_last}
 use Rattle.replica_opening.specs.Opened.{IsSettledAt, IsSettledOn}
 use Rattle.replica_node.specs.declared.parts.ReplicaParts.{ReplicaParts}
 use Rattle.replica_node.specs.declared.taking.NodeParts.{NodeParts}
-use Rattle.replica_node.specs.Replica.{IsWholeReplica}
 use Rattle.replica_node.specs.declared.merges.MergeCopies.{MergeCopies}
-use Rattle.replica_node.specs.Sources.{IsSourced, IsTakenApart}
-use Rattle.replica_node.specs.Starting.{IsJustOpened, SearchesJust}
+use Rattle.replica_node.specs.Sources.{IsTakenApart}
+use Rattle.replica_node.specs.Starting.{OpensOn}
 use Rattle.index_primary.specs.declared.parts.PrimaryParts.{PrimaryParts}
 use Rattle.index_primary.specs.Primary.{IsPrimary, loose_of, publish_loose, primary_names}
 use Rattle.searcher_switch.specs.Appearing.{NoneAppears}
@@ -74,10 +73,6 @@ no_commit cells n infos empty shows = none-some shows.bytes (sym (sym shows.newe
 pub finds_opening : (cells : Cells) (last : Option Commit) (infos : Infos) → IsEmptyDir cells → FindsPoint (reads_of cells) (number_of_last last) infos → (last ≡ None) × (infos ≡ opening_infos)
 finds_opening cells None infos empty finds = (refl, finds.1)
 finds_opening cells (Some c) infos empty finds = absurd (no_commit cells c.number infos empty finds)
-
--- it opens
-pub empty_opens : (cells : Cells) → IsEmptyDir cells → CanOpen (reads_of cells)
-empty_opens cells empty = inl (λ q commit. empty.now q)
 
 -- each image shows what it shows
 pub empty_settled : (cells : Cells) → IsEmptyDir cells → IsSettledOn cells
@@ -132,26 +127,24 @@ none_shown cells tickets loose empty untaken undrawn = record {
 module _ {D : Type 0} (cells : D → Cells) where
   -- ---- a replica on an empty directory
 
-  pub is_opening : (dir : Cells) (r : ReplicaParts D) → IsEmptyDir dir → IsWholeReplica cells r → FindsPoint (reads_of dir) (number_of_last r.commits.last) r.infos
-      → ((docs : List Doc) → StandsFor (reads_of dir) r.infos docs → SearchesJust cells docs r)
-      → ((source : Name → Content) → ((q : Name) → Contains (flat_map files_of_segment r.infos.segs) q → (dir q).now ≡ source q) → IsSourced source cells r) → IsJustOpened r → NoneAppears dir (cells r.dir) → IsOpening cells r
-  is_opening dir r empty whole finds searches sourced opened appears =
-      let found = finds_opening dir r.commits.last r.infos empty finds in
-      let just = searches [] (opening_stands (reads_of dir) r.infos found.1) in
+  pub is_opening : (dir : D) (r : ReplicaParts D) → IsEmptyDir (cells dir) → OpensOn cells dir r → IsOpening cells r
+  is_opening dir r empty opens =
+      let found = finds_opening (cells dir) r.commits.last r.infos empty opens.point in
+      let just = opens.documents [] (opening_stands (reads_of (cells dir)) r.infos found.1) in
       record {
-        whole = whole;
+        whole = opens.whole;
         standing = just.standing;
         infos = found.1;
         searched = just.searched;
         stands = just.stands;
-        empty = λ q. appears.each q (empty.now q);
-        tickets = opened.tickets;
-        commits = record { last = found.0; stage = opened.stage };
-        seen = opened.seen;
-        sourced = sourced (λ q. None) (λ q named. empty.now q);
-        job = opened.job;
-        jobs = opened.jobs;
-        copies = ap (λ (c : MergeCopies). c.running) opened.copies;
+        empty = λ q. opens.appears.each q (empty.now q);
+        tickets = opens.fresh.tickets;
+        commits = record { last = found.0; stage = opens.fresh.stage };
+        seen = opens.fresh.seen;
+        sourced = opens.sourced (λ q. None) (λ q named. empty.now q);
+        job = opens.fresh.job;
+        jobs = opens.fresh.jobs;
+        copies = ap (λ (c : MergeCopies). c.running) opens.fresh.copies;
       }
 
   opening_point : (r : ReplicaParts D) → IsOpening cells r → IsPointAt [] 1 r.searchers.point

@@ -30,7 +30,7 @@ use Rattle.replica_opening.proofs.Clearings.{one_found}
 use Rattle.replica_opening.proofs.Opens.{opens_commit}
 use Rattle.replica_node.specs.declared.job.PointJob.{PointJob}
 use Rattle.replica_node.specs.declared.parts.ReplicaParts.{ReplicaParts}
-use Rattle.replica_node.specs.Starting.{SearchesJust}
+use Rattle.replica_node.specs.Starting.{OpensOn, SearchesJust}
 use Rattle.history_rules.specs.declared.entry.Event.{Event}
 use Rattle.history_rules.specs.declared.entry.Event.TheVariants.{Copying, Crashed, Reopened, Publishing}
 use Rattle.history_rules.specs.Nodes.{Past, IsNode, is_at, primary_of, is_running, newest_version, version_of}
@@ -53,7 +53,7 @@ use Rattle.cluster_nodes.specs.declared.nodes.Node.TheVariants.{Primary, Replica
 use Rattle.cluster_nodes.specs.declared.nodes.NodePlace.{NodePlace}
 use Rattle.cluster_nodes.specs.Places.{Disk, place_of, disk_of, disk_at, dir_of, tickets_of}
 use Rattle.cluster_nodes.specs.Outs.{want_of, want_at, jobs_like}
-use Rattle.cluster_nodes.specs.Lives.{OpensOn, ReopensIn}
+use Rattle.cluster_nodes.specs.Lives.{ReopensIn}
 use Rattle.cluster_nodes.proofs.OutCounts.{jobs_same}
 use Rattle.cluster_state.specs.Run.{Rest, Run, IsNow}
 use Rattle.cluster_state.specs.State.{NodeShows, PlaceShows, Shows, HoldsTickets, StandForVersion}

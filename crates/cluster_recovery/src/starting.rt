@@ -3,7 +3,6 @@
 ghost use Rattle.std.specs.Prelude.{◌≡◌, ◌≤◌, [], false, None, ℕ, IfOk, IsSomeAnd, length};
 ghost use Rattle.std.specs.List.{All};
 ghost use Rattle.history_rules.specs.Nodes.{IsNode};
-ghost use Rattle.replica_opening.specs.Opening.{IsStartCutOff};
 ghost use Rattle.cluster_nodes.specs.Places.{place_of};
 ghost use Rattle.cluster_state.specs.Starting.{IsEmptyDir, IsUncommitted, IsOpening, OpensPlace};
 ghost use Rattle.cluster_state.specs.State.{PrimaryShows};
@@ -12,39 +11,19 @@ ghost use Rattle.cluster_state.specs.Names.{NamesShow};
 
 use cluster_nodes::{Node, NodeParts, NodePlace, Primary, Replica};
 use cluster_state::ClusterState;
-use commit_steps::RecoverFault;
 use disk_model::{Dir, FaultDir};
 use merge_tasks::{Ledger, Tasks};
 use nrt_base::NoMemory;
-use replica_node::{Refused, StartFault};
-use std::alloc::{AllocError, Global};
-
-// What is told of an opening that was cut off. No fault is planned for a disk that starts, but no clause of an opening says yet that its disk does
-// not fail then: so that arm is told as want of memory.
-fn cut_off(fault: StartFault) -> NoMemory
-    requires { IsStartCutOff fault }
-{
-    match fault {
-        StartFault::Memory => AllocError,
-        StartFault::Failed => AllocError,
-        StartFault::Recover(RecoverFault::Failed) => AllocError,
-        StartFault::Recover(_) => unreachable!(),
-        StartFault::Segment(_, _) => unreachable!(),
-    }
-}
+use std::alloc::Global;
 
 // A replica on an empty directory.
 fn open_replica<D: Dir + Drop>(alloc: Global, dir: D) -> Result<Replica<D>, NoMemory>
     requires { IsEmptyDir (D.cells dir) }
     ensures { IfOk result (IsOpening D.cells) }
 {
-    match Replica::start_from(alloc, dir) {
+    match Replica::start_empty(alloc, dir) {
         Ok(replica) => Ok(replica),
-        Err(refused) => {
-            let Refused { dir, fault } = refused;
-            drop(dir);
-            Err(cut_off(fault))
-        }
+        Err(fault) => Err(fault),
     }
 }
 
@@ -101,7 +80,7 @@ fn first_places<D: Dir + Drop>(
 }
 
 /// A cluster over these directories, where nothing stands: node n is on the n-th of them, from 1. Node 1 is the primary, and
-/// the others are replicas. It fails when out of memory or when the disk fails.
+/// the others are replicas. It fails when out of memory.
 pub fn start_cluster<D: FaultDir + Drop>(
     alloc: Global,
     dirs: Vec<D>,

@@ -9,7 +9,7 @@ use Rattle.lane_threads.specs.Firsts.{FirstIsTold}
 use Rattle.lane_threads.specs.Phases.{IsHistoryOf}
 use Rattle.lane_threads.specs.declared.run.Setup.{Setup}
 use Rattle.lane_threads.specs.Lanes.{setup_of}
-use Rattle.lane_sections.specs.Given.{SiteRun, is_logged}
+use Rattle.cluster_site.specs.Sites.{SiteRun, is_logged}
 use Rattle.cluster_state.specs.Run.{Run}
 use Rattle.cluster_run.specs.Running.{history_of, TellsInner}
 

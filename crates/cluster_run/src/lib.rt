@@ -6,6 +6,6 @@ mod crossing;
 pub mod runner;
 pub mod script;
 
-pub use lane_sections::{Cluster, Gate, Place, Site};
+pub use cluster_site::{Cluster, Gate, Place, Site};
 pub use runner::ClusterLines;
 pub use script::run_script;

@@ -2,6 +2,7 @@
 
 ghost use Rattle.script_serving.specs.Form.{is_command};
 
+use cluster_site::{Gate, Lanes, Site};
 use disk_model::FaultDir;
 use documents::Op;
 use hist_lock::{HistLock, LaneSeat};
@@ -9,7 +10,6 @@ use lane_copies::{copy, do_posted, drain, merge, settle};
 use lane_lines::{
     ask, close, commit, crash, fault, list_files, open, promote, publish, reopen, search, write,
 };
-use lane_sections::{Gate, Lanes, Site};
 use lane_threads::{Halt, Lane, RunsLines, Setup};
 use nrt_base::{NoMemory, Share};
 use script_serving::{Line, LineCommand};

@@ -8,15 +8,15 @@ ghost use Rattle.script_serving.specs.Serves.{Serves};
 ghost use Rattle.disk_memory.specs.Memory.{cells_in, known_plans};
 ghost use Rattle.trans_log.specs.Logs.{SameLogs, IsCalm};
 ghost use Rattle.cluster_state.specs.Starting.{IsEmptyDir};
-ghost use Rattle.lane_sections.specs.Given.{is_logged};
+ghost use Rattle.cluster_site.specs.Sites.{is_logged};
 ghost use Rattle.cluster_run.specs.Running.{history_of, TellsInner};
 
 use crate::crossing::{ledger_crosses, sent};
 use crate::runner::ClusterLines;
 use cluster_nodes::NodePlace;
+use cluster_site::{Cluster, Gate, Site};
 use cluster_state::ClusterState;
 use disk_memory::MemDir;
-use lane_sections::{Cluster, Gate, Site};
 use lane_threads::Setup;
 use merge_tasks::{Ledger, Tasks};
 use nrt_base::NoMemory;

@@ -4,4 +4,6 @@ mod Lifting
 mod Opens
 mod Promotions
 mod Replays
+pub mod Sections
 mod Stands
+pub mod StateParts

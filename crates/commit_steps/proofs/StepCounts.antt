@@ -1,10 +1,10 @@
 -- How many calls of its directory a step of a book makes.
-use Rattle.std.proofs.Common.{◌≡◌, ℕ, Bool, true, Option, Some, None, List, Result, Ok, Err, refl, sym, ap, subst, ◌∙◌, ◌++◌}
-use Rattle.disk_model.specs.Disk.{Name, Cells, after_sync_names}
+use Rattle.std.proofs.Common.{◌≡◌, ℕ, true, Option, Some, None, List, Ok, Err, refl, ap, subst, ◌∙◌, ◌++◌}
+use Rattle.disk_model.specs.Disk.{Name, after_sync_names}
 use Rattle.disk_model.specs.Faults.{Plans, FailsByPlans}
 use Rattle.disk_model.specs.declared.dir.DirFault.TheVariants.{Memory as DirMemory}
 use Rattle.file_deleter.specs.Holdings.{Holdings}
-use Rattle.file_deleter.specs.Removals.{Directory, Removals, RemovesInOrder}
+use Rattle.file_deleter.specs.Removals.{Directory, Removals}
 use Rattle.commit_steps.specs.declared.states.Commit.{Commit}
 use Rattle.commit_steps.specs.declared.stage.Stage.{Stage}
 use Rattle.commit_steps.specs.declared.stage.Stage.TheVariants.{Begun, Synced, Written, Pending, Named, Renamed}

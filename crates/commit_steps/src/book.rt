@@ -13,7 +13,7 @@ ghost use Rattle.commit_steps.specs.StepCalls.{RemovesLast, StepCalls};
 ghost use Rattle.commit_steps.specs.Book.{commit_of, last_names, book_names, IsBookSound, IsBookStep, book_after, is_last_step};
 
 use crate::advance::advance;
-use crate::stage::{CommitBook, Progress};
+use crate::stage::{CommitBook, Progress, Stage};
 use crate::states::{Commit, CommitFault};
 use disk_model::Dir;
 use file_deleter::FileDeleter;
@@ -63,7 +63,16 @@ impl CommitBook {
     {
         if let Some(old) = self.last.replace(commit) {
             files.release(old.names.as_slice(), dir);
+            drop(old);
         }
+    }
+
+    // The commit is in flight.
+    pub(crate) fn put(&mut self, stage: Stage)
+        ensures { self.new ≡ record self.old { stage = Some stage } }
+    {
+        let old = self.stage.replace(stage);
+        drop(old);
     }
 
     // One call of the directory for the commit in flight.
@@ -96,7 +105,7 @@ impl CommitBook {
         };
         match advance(alloc, stage, files, dir) {
             Ok(Progress::Going(stage)) => {
-                self.stage = Some(stage);
+                self.put(stage);
                 Ok(false)
             }
             Ok(Progress::Made(commit)) => {
@@ -104,7 +113,7 @@ impl CommitBook {
                 Ok(true)
             }
             Err(stopped) => {
-                self.stage = Some(stopped.state);
+                self.put(stopped.state);
                 Err(stopped.fault)
             }
         }

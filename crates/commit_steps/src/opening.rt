@@ -3,10 +3,11 @@
 ghost use Rattle.std.specs.Prelude.{◌≡◌, ◌+◌, ◌<◌, ◌^◌, [], None, Some, IsSome, IfSome, Ok, Err, IfOk, OnOk, OnErr};
 ghost use Rattle.disk_model.specs.Disk.{reads_of};
 ghost use Rattle.file_names.specs.Names.{commit_name_of, pending_name_of};
+ghost use Rattle.file_deleter.specs.Holdings.{IsDueBut};
 ghost use Rattle.file_deleter.specs.Moves.{HoldsFiles, MovesCounts};
 ghost use Rattle.segment_infos.specs.Infos.{CanSpell};
 ghost use Rattle.commit_steps.specs.Found.{ShowsCommit};
-ghost use Rattle.commit_steps.specs.Flights.{IsCommit};
+ghost use Rattle.commit_steps.specs.Flights.{IsCommit, IsFlight};
 ghost use Rattle.commit_steps.specs.Commits.{HasFilesOf, ImagesShow};
 ghost use Rattle.commit_steps.specs.Calls.{IsFree};
 ghost use Rattle.commit_steps.specs.Book.{book_names, IsBookSound, IsOpened, HasBegun};
@@ -40,6 +41,51 @@ fn commit_with(alloc: Global, number: u64, infos: &Infos) -> Result<Commit, NoMe
     })
 }
 
+// What a commit of these infos with this number begins with: the commit, and the bytes of its file.
+fn flight_with(alloc: Global, number: u64, infos: &Infos) -> Result<Flight, NoMemory>
+    requires some { 0 < number }
+    requires below { number < 2 ^ 62 }
+    requires spelled { CanSpell infos.now }
+    ensures flight { IfOk result IsFlight }
+    ensures number { IfOk result (λ flight. flight.commit.number ≡ number) }
+    ensures infos { IfOk result (λ flight. flight.commit.infos ≡ infos.now) }
+{
+    let bytes = encode(alloc, infos)?;
+    let commit = commit_with(alloc, number, infos)?;
+    Ok(Flight { commit, bytes })
+}
+
+// The same, and its files are held.
+#[tactic(auto, using(crate::proofs::Beginning::files_there))]
+fn flight_held<D: Dir>(
+    alloc: Global,
+    number: u64,
+    infos: &Infos,
+    files: &mut FileDeleter,
+    dir: &D,
+) -> Result<Flight, NoMemory>
+    requires some { 0 < number }
+    requires below { number < 2 ^ 62 }
+    requires spelled { CanSpell infos.now }
+    requires there { HasFilesOf (D.cells dir.now) infos.now }
+    ensures flight { IfOk result IsFlight }
+    ensures number { IfOk result (λ flight. flight.commit.number ≡ number) }
+    ensures infos { IfOk result (λ flight. flight.commit.infos ≡ infos.now) }
+    ensures holds { IfOk result (λ flight.
+        HoldsFiles flight.commit.files files.old files.new (D.cells dir.now)) }
+    ensures due { IfOk result (λ flight. IsDueBut flight.commit.files files.old files.new) }
+    ensures err { OnErr result (files.new ≡ files.old) }
+{
+    let flight = flight_with(alloc, number, infos)?;
+    match files.hold_there(flight.commit.files.as_slice(), dir) {
+        Ok(()) => Ok(flight),
+        Err(fault) => {
+            drop(flight);
+            Err(fault)
+        }
+    }
+}
+
 impl CommitBook {
     /// The book of a directory whose last commit is `segments_N` with these infos. It holds that file and those that the
     /// infos name, which must exist; the next commit's number must be above N.
@@ -63,17 +109,21 @@ impl CommitBook {
         ensures err { OnErr result (files.new ≡ files.old) }
     {
         let commit = commit_with(alloc, number, infos)?;
-        files.hold_there(commit.names.as_slice(), dir)?;
-        Ok(CommitBook {
-            last: Some(commit),
-            stage: None,
-            next,
-        })
+        match files.hold_there(commit.names.as_slice(), dir) {
+            Ok(()) => Ok(CommitBook {
+                last: Some(commit),
+                stage: None,
+                next,
+            }),
+            Err(fault) => {
+                drop(commit);
+                Err(fault)
+            }
+        }
     }
 
     /// Begins a commit of these infos with the next number. It holds the files that they name, which must exist. Nothing may
     /// be in flight, and no file may have a name of that number.
-    #[tactic(auto, using(crate::proofs::Beginning::files_there, crate::proofs::Beginning::begun_sound, crate::proofs::Beginning::begun_moves))]
     pub fn begin<D: Dir>(
         &mut self,
         alloc: Global,
@@ -94,10 +144,8 @@ impl CommitBook {
         ensures sound { IsBookSound (D.cells dir.now) files.new self.new }
         ensures err { OnErr result ((self.new ≡ self.old) × (files.new ≡ files.old)) }
     {
-        let bytes = encode(alloc, infos)?;
-        let commit = commit_with(alloc, self.next, infos)?;
-        files.hold_there(commit.files.as_slice(), dir)?;
-        self.stage = Some(Stage::Begun(Begun(Flight { commit, bytes })));
+        let flight = flight_held(alloc, self.next, infos, files, dir)?;
+        self.put(Stage::Begun(Begun(flight)));
         self.next += 1;
         Ok(())
     }

@@ -3,7 +3,6 @@ mod Ascending
 pub mod Placings
 pub mod Naming
 mod Lookups
-mod TestLaws
 pub mod Kept
 pub mod Taking
 pub mod Points

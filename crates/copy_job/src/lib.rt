@@ -15,6 +15,3 @@ pub use copying::{Part, copy_file};
 pub use fault::JobFault;
 pub use job::CopyJob;
 pub use part::{JobKind, JobPart};
-
-#[cfg(test)]
-mod tests;

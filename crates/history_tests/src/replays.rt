@@ -3,7 +3,7 @@
 use documents::Op;
 use history_rules::{Entry, Event};
 use nrt_base::{At, Key, LaneNo, LineNo, NoMemory};
-use serving_laws::begins_with_replay;
+use serving_rules::begins_with_replay;
 use std::alloc::Global;
 
 fn place(line: u32) -> At {

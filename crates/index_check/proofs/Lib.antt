@@ -3,6 +3,7 @@ mod DocumentsRead
 mod Exact
 mod Filling
 mod Format
+mod ImageLaws
 mod Images
 mod LiveRows
 mod Loads

@@ -4,6 +4,7 @@ pub mod Checks
 pub mod Commit
 pub mod Directory
 pub mod Images
+pub mod ImagesNow
 pub mod Lines
 pub mod Loading
 pub mod Reading

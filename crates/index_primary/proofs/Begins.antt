@@ -29,6 +29,10 @@ use Rattle.index_primary.proofs.Begun.{inputs_named, inputs_there, primary_begin
 pub same_task : (t : MergeTask) (inputs : List Shown) (live : List (List Bool)) → inputs ≡ t.inputs → live ≡ t.live → ◌≡◌ {A = MergeTask} (record { seg = t.seg; inputs = inputs; live = live }) t
 same_task t inputs live a b = ap (λ (xs : List Shown). record { seg = t.seg; inputs = xs; live = live }) a ∙ ap (λ (ls : List (List Bool)). record { seg = t.seg; inputs = t.inputs; live = ls }) b
 
+-- what is refused leaves the parts as they were
+pub note_refused : {D : Type 0} (p : PrimaryParts D) (files : Holdings) (merges : List Merging) → merges ≡ p.merges → files ≡ p.files → ◌≡◌ {A = PrimaryParts D} (record p { files = files; merges = merges }) p
+note_refused p files merges a b = ap (λ (ms : List Merging). record p { files = files; merges = ms }) a ∙ ap (λ (h : Holdings). record p { files = h }) b
+
 module _ {D : Type 0} (cells : D → Cells) (p : PrimaryParts D) (is : IsPrimary cells p) (factor : ℕ) (two : 2 ≤ factor) (start : MergeStart)
     (h : IsStart (record { 0 = drawn_to p.infos }) factor (merge_inputs p.merges) p.infos.segs p.segs start) (more : p.infos.counter < 1679616) where
   abbrev number : SegNo

@@ -1,5 +1,5 @@
 -- Files that a call counts for the first time, and those that are not written yet.
-use Rattle.std.proofs.Common.{◌≡◌, ◌<◌, ◌+◌, ℕ, List, [], ◌++◌, ◌⊎◌, inl, inr, Option, None, Result, Ok, Err, refl, ap, subst, ◌∙◌, arith, zero}
+use Rattle.std.proofs.Common.{◌≡◌, ◌<◌, ℕ, List, [], ◌++◌, ◌⊎◌, inl, inr, Option, None, Result, Ok, Err, refl, ap, subst, ◌∙◌, arith}
 use Rattle.std.specs.List.{Contains}
 use Rattle.std.proofs.lemmas.Bool.{lt-ltb}
 use Rattle.disk_model.specs.Disk.{Name, Cells}

@@ -67,4 +67,5 @@ pub fn abandon<D: Dir>(parts: &mut PrimaryParts<D>, seg: SegNo)
     parts
         .files
         .release(merging.names.as_slice(), &mut parts.dir);
+    drop(merging);
 }

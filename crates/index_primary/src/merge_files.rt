@@ -151,9 +151,15 @@ impl<D: Dir> Primary<D> {
             Ok(()) => {}
             Err(DirFault::Failed) => {
                 abandon(&mut self.parts, merged.files.seg);
+                drop(ready);
+                drop(merged);
                 return Err(PrimaryFault::Failed);
             }
-            Err(_) => return Err(PrimaryFault::Memory),
+            Err(_) => {
+                drop(ready);
+                drop(merged);
+                return Err(PrimaryFault::Memory);
+            }
         }
         match lend(
             ready.out,
@@ -164,12 +170,17 @@ impl<D: Dir> Primary<D> {
         ) {
             Ok(()) => {
                 set_made(alloc, &mut self.parts.merges, merged, ready.names);
+                drop(ready.written);
                 Ok(ready.state)
             }
             Err(_) => {
                 self.parts
                     .files
                     .release(ready.written.as_slice(), &mut self.parts.dir);
+                drop(ready.written);
+                drop(ready.names);
+                drop(ready.state);
+                drop(merged);
                 Err(PrimaryFault::Memory)
             }
         }

@@ -20,7 +20,7 @@ use file_names::FileName;
 use nrt_base::{List, NoMemory, SegNo, Share};
 use segment_infos::{Infos, SegRecord, files_of};
 use segment_steps::{MergeStart, MergeTask, sizes_of, start_merge};
-use std::alloc::Global;
+use std::alloc::{AllocError, Global};
 
 // Whether the number is one of these.
 fn is_among(inputs: &[SegNo], seg: SegNo) -> bool
@@ -82,7 +82,10 @@ fn shared(alloc: Global, task: &MergeTask) -> Result<MergeTask, NoMemory>
     ensures { IfOk result (λ other. other ≡ task.now) }
 {
     let inputs = task.inputs.share(alloc)?;
-    let live = task.live.share(alloc)?;
+    let Ok(live) = task.live.share(alloc) else {
+        drop(inputs);
+        return Err(AllocError);
+    };
     Ok(MergeTask {
         seg: task.seg,
         inputs,
@@ -113,6 +116,34 @@ fn note<D: Dir>(
     }
 }
 
+// What a merge that starts takes memory for: its task as it is noted, the names of the files of its inputs, and the same names as
+// they are held.
+#[derive(Drop)]
+struct StartReady {
+    task: MergeTask,
+    names: List<FileName>,
+    held: List<FileName>,
+}
+
+fn prepare(alloc: Global, infos: &Infos, start: &MergeStart) -> Result<StartReady, NoMemory>
+    ensures task { IfOk result (λ ready. ready.task ≡ start.now.task) }
+    ensures names { IfOk result (λ ready.
+        AreFilesOf (record infos.now { segs = records_in start.now.inputs infos.now.segs }) ready.names) }
+    ensures held { IfOk result (λ ready. ready.held ≡ ready.names) }
+{
+    let names = names_of_inputs(alloc, infos, start.inputs.as_slice())?;
+    let Ok(held) = names.share(alloc) else {
+        drop(names);
+        return Err(AllocError);
+    };
+    let Ok(task) = shared(alloc, &start.task) else {
+        drop(names);
+        drop(held);
+        return Err(AllocError);
+    };
+    Ok(StartReady { task, names, held })
+}
+
 // The merge that was chosen starts: its number is drawn.
 fn begin<D: Dir>(
     alloc: Global,
@@ -132,12 +163,19 @@ fn begin<D: Dir>(
     ensures drawn { DrawsOnly parts.old parts.new }
     ensures whole { IsPrimary D.cells parts.new }
 {
-    let names = names_of_inputs(alloc, &parts.infos, start.inputs.as_slice())?;
-    let held = names.share(alloc)?;
-    let noted = shared(alloc, &start.task)?;
+    let Ok(ready) = prepare(alloc, &parts.infos, &start) else {
+        drop(start);
+        return Err(AllocError);
+    };
+    let MergeStart { task, inputs } = start;
+    let StartReady {
+        task: noted,
+        names,
+        held,
+    } = ready;
     let merging = Merging {
         task: noted,
-        inputs: start.inputs,
+        inputs,
         names,
         merged: None,
     };
@@ -150,9 +188,14 @@ fn begin<D: Dir>(
     ) {
         Ok(()) => {
             parts.infos.counter += 1;
-            Ok(start.task)
+            drop(held);
+            Ok(task)
         }
-        Err(fault) => Err(fault),
+        Err(fault) => {
+            drop(held);
+            drop(task);
+            Err(fault)
+        }
     }
 }
 

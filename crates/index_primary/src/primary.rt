@@ -150,21 +150,34 @@ impl<D: Dir> Primary<D> {
         let Primary { parts } = self;
         let PrimaryParts {
             dir,
-            files: _,
-            searchers: _,
-            commits: _,
-            point_infos: _,
-            infos: _,
-            segs: _,
-            names: _,
-            states: _,
-            merges: _,
-            waiting: _,
+            files,
+            searchers,
+            commits,
+            point_infos,
+            infos,
+            segs,
+            names,
+            states,
+            merges,
+            waiting,
             accepted: _,
-            publish: _,
+            publish,
             has_cut_over: _,
-            completed: _,
+            completed,
         } = parts;
+        // What goes by a call takes the check a second; left to the end of the body, all this takes a minute.
+        drop(files);
+        drop(searchers);
+        drop(commits);
+        drop(point_infos);
+        drop(infos);
+        drop(segs);
+        drop(names);
+        drop(states);
+        drop(merges);
+        drop(waiting);
+        drop(publish);
+        drop(completed);
         dir
     }
 }

@@ -71,6 +71,7 @@ impl<D: Dir> Primary<D> {
             return Err(PublishFault::Memory);
         };
         let Ok(segs) = self.parts.segs.share(alloc) else {
+            drop(ops);
             return Err(PublishFault::Memory);
         };
         let count = self.parts.waiting.as_slice().len();

@@ -13,8 +13,9 @@ use Rattle.lane_threads.specs.Seats.{log_seen}
 use Rattle.cluster_state.specs.declared.turn.Turn.{Turn}
 use Rattle.cluster_state.specs.declared.turn.Turn.TheVariants.{Work, Done, Busy}
 use Rattle.cluster_merges.specs.TaskCalls.{DrainTurns}
-use Rattle.lane_sections.specs.Given.{SiteRun, IsRepliedAtDone}
-use Rattle.lane_sections.specs.Turns.{NeverWaits, IsUnbegunIn, TurnShows, TakesLineTo}
+use Rattle.cluster_site.specs.Sites.{SiteRun}
+use Rattle.cluster_site.specs.Given.{IsRepliedAtDone}
+use Rattle.cluster_site.specs.Turns.{NeverWaits, IsUnbegunIn, TurnShows, TakesLineTo}
 use Rattle.cluster_state.specs.Run.{Run}
 use Rattle.lane_copies.specs.Taken.{WorksOn}
 use Rattle.lane_copies.proofs.Silence.{silent_serves, silent_fresh}

@@ -17,7 +17,7 @@ use Rattle.lane_threads.specs.Seats.{log_seen, IsLaneSeat}
 use Rattle.lane_threads.proofs.SeatLemmas.{lane_named}
 use Rattle.lane_threads.specs.declared.lane.Lane.{Lane}
 use Rattle.lane_threads.specs.Parts.{IsIdleLane, HasHeard}
-use Rattle.lane_sections.specs.Given.{SiteRun}
+use Rattle.cluster_site.specs.Sites.{SiteRun}
 use Rattle.lane_copies.specs.Taken.{WorksOn}
 use Rattle.lane_copies.proofs.Silence.{silent_others}
 

@@ -45,10 +45,11 @@ use Rattle.cluster_state.specs.declared.standing.Standing.TheVariants.{Runs, Pas
 use Rattle.cluster_state.specs.declared.turn.Turn.{Turn}
 use Rattle.cluster_state.specs.declared.turn.Turn.TheVariants.{Work, Done, Busy}
 use Rattle.cluster_state.specs.CopyCalls.{is_node_lost, overtaken, standing_of, log_after, stopped_log, StopsTurn, JobGoesOn, JobTakes, AreFrom, IsBeingCopied, CopyStarts, CopyStartsWhen, SettleStarts, SettleGoesOn, SettlesOn}
-use Rattle.lane_sections.specs.Given.{SiteRun, DoesAtSite, IsReplied, IsRepliedAtDone, IsBegunAtWork}
-use Rattle.lane_sections.specs.Flights.{HasFlight, WaitsWhere}
-use Rattle.lane_sections.proofs.Sections.{some_there, job_waited}
-use Rattle.lane_sections.specs.Turns.{IsUnbegunIn, NeverWaits, TurnShows}
+use Rattle.cluster_site.specs.Sites.{SiteRun, DoesAtSite}
+use Rattle.cluster_site.specs.Given.{IsReplied, IsRepliedAtDone, IsBegunAtWork}
+use Rattle.cluster_site.specs.Flights.{HasFlight, WaitsWhere}
+use Rattle.cluster_site.proofs.Sections.{some_there, job_waited}
+use Rattle.cluster_site.specs.Turns.{IsUnbegunIn, NeverWaits, TurnShows}
 use Rattle.lane_copies.specs.Jobs.{IsJobStart, IsCopyStart, IsCopyingBy, HasFileOut, IsCopyReplied, IsCopiedSomewhere, BeginsCopy, BeginsNextJob, HasBegunToSettle, IsSettlingOn, LeavesJob, LeavesJobAt}
 
 -- ---- the job has no end

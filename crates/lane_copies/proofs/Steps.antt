@@ -20,12 +20,12 @@ use Rattle.lane_threads.specs.Seats.{log_seen, IsLaneSeat, EndsItsLine}
 use Rattle.cluster_nodes.specs.declared.tasks.CopyTask.{CopyTask}
 use Rattle.cluster_nodes.specs.declared.tasks.SettleTask.{SettleTask}
 use Rattle.cluster_state.specs.Settles.{IsSettling}
-use Rattle.lane_sections.specs.Given.{SiteRun, DoesAtSite}
+use Rattle.cluster_site.specs.Sites.{SiteRun, DoesAtSite}
 use Rattle.cluster_state.specs.declared.turn.Turn.{Turn}
 use Rattle.cluster_state.specs.declared.turn.Turn.TheVariants.{Work, Done, Busy}
 use Rattle.cluster_state.specs.CopyCalls.{CopiesFor, AreFrom}
-use Rattle.lane_sections.specs.Turns.{TakesLineTo}
-use Rattle.lane_sections.proofs.Sections.{EntersSite, IsLeft, call_takes}
+use Rattle.cluster_site.specs.Turns.{TakesLineTo}
+use Rattle.cluster_site.proofs.Sections.{EntersSite, IsLeft, call_takes}
 use Rattle.lane_copies.specs.Jobs.{IsJobStart, IsCopyStart, IsCopyingBy, IsCopyReplied, HasBegunToSettle, IsSettlingOn, IsStillSettling, BeginsCopy, BeginsNextJob, LeavesJob, LeavesJobAt, StepsJob, TurnsJob}
 use Rattle.lane_copies.proofs.Stays.{settling_stays}
 

@@ -27,9 +27,9 @@ use Rattle.cluster_merges.specs.MergePaths.{TakesTask}
 use Rattle.cluster_state.specs.declared.turn.Turn.{Turn}
 use Rattle.cluster_state.specs.declared.turn.Turn.TheVariants.{Work, Done, Busy}
 use Rattle.cluster_merges.specs.TaskCalls.{PrecopyTurns, CutTurns}
-use Rattle.lane_sections.specs.Flights.{HasPublish, HasJobAt, WaitsWhere}
-use Rattle.lane_sections.specs.Given.{SiteRun, DoesAtSite, DoesTaskAtSite, is_logged}
-use Rattle.lane_sections.proofs.Sections.{EntersSite, IsLeft, call_extends}
+use Rattle.cluster_site.specs.Flights.{HasPublish, HasJobAt, WaitsWhere}
+use Rattle.cluster_site.specs.Sites.{SiteRun, DoesAtSite, DoesTaskAtSite, is_logged}
+use Rattle.cluster_site.proofs.Sections.{EntersSite, IsLeft, call_extends}
 use Rattle.lane_copies.specs.Taken.{IsTakerAt, GrowsSilently, WorksOn, TakesOn, HandsOn}
 use Rattle.lane_copies.proofs.Silence.{silent_first, silent_then, section_silent}
 

@@ -29,7 +29,7 @@ use Rattle.cluster_state.specs.Settles.{IsSettling}
 use Rattle.cluster_state.specs.declared.turn.Turn.{Turn}
 use Rattle.cluster_state.specs.declared.turn.Turn.TheVariants.{Work, Done, Busy}
 use Rattle.cluster_state.specs.CopyCalls.{CopiesFor, AreFrom, IsBeingCopied}
-use Rattle.lane_sections.specs.Given.{SiteRun}
+use Rattle.cluster_site.specs.Sites.{SiteRun}
 
 -- a line that has started so copies to the node of the job: as a copy, or as a settle
 abbrev pub IsJobStart : ℕ → Option Event → Type 0

@@ -21,7 +21,7 @@ use Rattle.lane_threads.specs.Owes.{FaultsFit}
 use Rattle.lane_threads.specs.Seats.{log_seen, IsLaneSeat}
 use Rattle.cluster_state.specs.declared.turn.Turn.{Turn}
 use Rattle.cluster_state.specs.declared.turn.Turn.TheVariants.{Work, Done, Busy}
-use Rattle.lane_sections.specs.Given.{SiteRun}
+use Rattle.cluster_site.specs.Sites.{SiteRun}
 use Rattle.cluster_state.specs.Merging.{IsFitKind}
 
 -- the task is what the entries show that was handed out, and is fit to be done

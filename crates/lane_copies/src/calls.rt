@@ -7,16 +7,16 @@ ghost use Rattle.history_book.specs.Log.{printed};
 ghost use Rattle.script_serving.specs.declared.script.LineCommand.{LineCommand};
 ghost use Rattle.script_serving.specs.declared.script.LineCommand.TheVariants.{Settle};
 ghost use Rattle.cluster_state.specs.DueFaults.{ArrivesBy};
-ghost use Rattle.lane_sections.specs.Given.{DoesAtSite};
+ghost use Rattle.cluster_site.specs.Sites.{DoesAtSite};
 ghost use Rattle.cluster_state.specs.CopyCalls.{CopiesFor};
-ghost use Rattle.lane_sections.specs.Flights.{WaitsWhere};
-ghost use Rattle.lane_sections.specs.Turns.{TurnShows};
+ghost use Rattle.cluster_site.specs.Flights.{WaitsWhere};
+ghost use Rattle.cluster_site.specs.Turns.{TurnShows};
 ghost use Rattle.lane_copies.specs.Jobs.{IsCopyingBy, HasFileOut, LeavesJobAt, IsStillSettling, HasBegunToSettle, IsCopiedSomewhere, BeginsNextJob, IsSettlingOn};
 
 use cluster_nodes::{CopyTask, FileTask, SettleTask};
+use cluster_site::{Site, Turn};
 use copy_job::{JobFault, Part};
 use disk_model::FaultDir;
-use lane_sections::{Site, Turn};
 use nrt_base::{At, NoMemory};
 use std::alloc::{AllocError, Global};
 

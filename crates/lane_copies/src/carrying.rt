@@ -7,9 +7,9 @@ ghost use Rattle.cluster_state.specs.DueFaults.{ArrivesBy};
 
 use bytes::Bytes;
 use cluster_nodes::FileTask;
+use cluster_site::{Gate, Place};
 use copy_job::{JobFault, Part, copy_file};
 use file_names::FileName;
-use lane_sections::{Gate, Place};
 use link_model::{Link, LinkFault, MemLink};
 use nrt_base::{At, LineNo, NoMemory, NodeNo};
 use std::alloc::{AllocError, Global};

@@ -7,15 +7,15 @@ ghost use Rattle.history_book.specs.Log.{printed};
 ghost use Rattle.script_serving.specs.declared.script.LineCommand.TheVariants.{Copy};
 ghost use Rattle.lane_threads.specs.Seats.{log_seen, IsLaneSeat, EndsItsLine};
 ghost use Rattle.cluster_state.specs.CopyCalls.{IsBeingCopied};
-ghost use Rattle.lane_sections.specs.Flights.{WaitsWhere};
-ghost use Rattle.lane_sections.specs.Turns.{IsUnbegunIn, TurnsLine};
+ghost use Rattle.cluster_site.specs.Flights.{WaitsWhere};
+ghost use Rattle.cluster_site.specs.Turns.{IsUnbegunIn, TurnsLine};
 ghost use Rattle.lane_copies.specs.Jobs.{BeginsCopy};
 
 use crate::jobs::bring_over;
 use cluster_nodes::CopyTask;
+use cluster_site::{Gate, Lanes, Site, Turn, enter_site, give_way};
 use disk_model::FaultDir;
 use hist_lock::LaneSeat;
-use lane_sections::{Gate, Lanes, Site, Turn, enter_site, give_way};
 use lane_threads::leave;
 use nrt_base::{At, NoMemory, NodeNo};
 use std::sync::Wait;

@@ -4,15 +4,15 @@ ghost use Rattle.std.specs.Prelude.{◌≡◌, [], false, Some, IfOk, OnOk, OnEr
 ghost use Rattle.history_rules.specs.Lines.{entries_of_line};
 ghost use Rattle.history_book.specs.Log.{printed};
 ghost use Rattle.script_serving.specs.declared.script.LineCommand.TheVariants.{Drain};
-ghost use Rattle.lane_sections.specs.Given.{DoesAtSite};
-ghost use Rattle.lane_sections.specs.Turns.{IsUnbegunIn, NeverWaits, TurnShows, TurnsLine};
+ghost use Rattle.cluster_site.specs.Sites.{DoesAtSite};
+ghost use Rattle.cluster_site.specs.Turns.{IsUnbegunIn, NeverWaits, TurnShows, TurnsLine};
 ghost use Rattle.lane_threads.specs.Seats.{log_seen, IsLaneSeat, EndsItsLine};
 ghost use Rattle.lane_copies.specs.Taken.{WorksOn};
 
 use crate::tasks::do_first;
+use cluster_site::{Gate, Lanes, Site, Turn, enter_site};
 use disk_model::FaultDir;
 use hist_lock::LaneSeat;
-use lane_sections::{Gate, Lanes, Site, Turn, enter_site};
 use lane_threads::leave;
 use nrt_base::{At, NoMemory};
 use std::alloc::AllocError;

@@ -8,10 +8,10 @@ ghost use Rattle.lane_copies.specs.Jobs.{IsCopyingBy, HasFileOut, IsCopyReplied,
 use crate::calls::{next_file, take_part};
 use crate::carrying::carry;
 use cluster_nodes::{CopyTask, FileTask};
+use cluster_site::{Gate, Lanes, Site, Turn, enter_site};
 use copy_job::{JobFault, Part};
 use disk_model::FaultDir;
 use hist_lock::LaneSeat;
-use lane_sections::{Gate, Lanes, Site, Turn, enter_site};
 use lane_threads::leave;
 use nrt_base::{At, NoMemory};
 use std::sync::Wait;

@@ -6,9 +6,9 @@ ghost use Rattle.history_book.specs.Log.{printed};
 ghost use Rattle.script_serving.specs.declared.script.LineCommand.TheVariants.{Merge};
 ghost use Rattle.lane_threads.specs.Seats.{log_seen, IsLaneSeat, EndsItsLine};
 
+use cluster_site::{Gate, Lanes, Site, enter_site};
 use disk_model::FaultDir;
 use hist_lock::LaneSeat;
-use lane_sections::{Gate, Lanes, Site, enter_site};
 use lane_threads::leave;
 use nrt_base::{At, NoMemory};
 use std::sync::Wait;

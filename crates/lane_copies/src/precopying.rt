@@ -4,15 +4,15 @@ ghost use Rattle.std.specs.Prelude.{IfOk, OnOk};
 ghost use Rattle.history_rules.specs.Nodes.{IsNode};
 ghost use Rattle.cluster_state.specs.DueFaults.{ArrivesBy};
 ghost use Rattle.lane_threads.specs.Seats.{log_seen, IsLaneSeat};
-ghost use Rattle.lane_sections.specs.Flights.{HasJobAt, WaitsWhere};
+ghost use Rattle.cluster_site.specs.Flights.{HasJobAt, WaitsWhere};
 ghost use Rattle.lane_copies.specs.Taken.{IsTakerAt, IsCarriedIn, WorksOn, HandsOn};
 
 use crate::carrying::carry;
 use cluster_nodes::FileTask;
+use cluster_site::{Gate, Lanes, Site, Turn, enter_site, give_way};
 use copy_job::{JobFault, Part};
 use disk_model::FaultDir;
 use hist_lock::LaneSeat;
-use lane_sections::{Gate, Lanes, Site, Turn, enter_site, give_way};
 use lane_threads::leave;
 use merge_tasks::{Sent, Task};
 use nrt_base::{At, NoMemory};

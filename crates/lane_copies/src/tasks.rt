@@ -4,14 +4,14 @@ ghost use Rattle.std.specs.Prelude.{◌≡◌, false, IfOk, OnOk};
 ghost use Rattle.cluster_merges.specs.MergePaths.{IsMergedOut};
 ghost use Rattle.lane_threads.specs.Seats.{log_seen, IsLaneSeat};
 ghost use Rattle.lane_threads.specs.Parts.{IsIdleLane, HasHeard};
-ghost use Rattle.lane_sections.specs.Flights.{HasPublish, WaitsWhere};
+ghost use Rattle.cluster_site.specs.Flights.{HasPublish, WaitsWhere};
 ghost use Rattle.lane_copies.specs.Taken.{IsTakerAt, IsTaskIn, IsMergeIn, WorksOn, TakesOn};
 
 use crate::precopying::copy_over;
+use cluster_site::{Gate, Lanes, Place, Site, Turn, enter_site, give_way};
 use disk_model::FaultDir;
 use hist_lock::LaneSeat;
 use history_facts::is_node;
-use lane_sections::{Gate, Lanes, Place, Site, Turn, enter_site, give_way};
 use lane_threads::{Lane, leave};
 use merge_tasks::{Sent, Task, TaskKind};
 use nrt_base::{At, LineNo, NoMemory};

@@ -18,9 +18,10 @@ use Rattle.cluster_state.specs.declared.turn.Turn.{Turn}
 use Rattle.cluster_state.specs.declared.turn.Turn.TheVariants.{Work, Done, Busy}
 use Rattle.cluster_state.specs.LifeCalls.{CommitStarts, CommitSteps}
 use Rattle.cluster_state.proofs.MetLines.{met_last}
-use Rattle.lane_sections.specs.Given.{SiteRun, IsRepliedAtDone, IsBegunAtWork}
-use Rattle.lane_sections.specs.Flights.{HasCommitAt, WaitsWhere}
-use Rattle.lane_sections.specs.Turns.{IsUnbegunIn, NeverWaits, TurnShows}
+use Rattle.cluster_site.specs.Sites.{SiteRun}
+use Rattle.cluster_site.specs.Given.{IsRepliedAtDone, IsBegunAtWork}
+use Rattle.cluster_site.specs.Flights.{HasCommitAt, WaitsWhere}
+use Rattle.cluster_site.specs.Turns.{IsUnbegunIn, NeverWaits, TurnShows}
 use Rattle.lane_lines.specs.Commits.{HasBegunCommit, IsCommitting}
 
 pub commit_shows : (at : At) (n : NodeNo) (old new : Run) (turn : Turn CommitTask) → entries_of_line at (printed old.log) ≡ [] → CommitStarts at n old new turn → IsRepliedAtDone at new turn

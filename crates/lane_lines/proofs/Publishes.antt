@@ -21,9 +21,9 @@ use Rattle.cluster_state.specs.Writes.{IsFlushed}
 use Rattle.cluster_state.specs.declared.turn.Turn.{Turn}
 use Rattle.cluster_state.specs.declared.turn.Turn.TheVariants.{Work, Done, Busy}
 use Rattle.cluster_state.specs.Calls.{PublishStarts}
-use Rattle.lane_sections.specs.Given.{IsRepliedAtDone, IsBegunAtWork}
-use Rattle.lane_sections.specs.Flights.{HasPublish, WaitsWhere}
-use Rattle.lane_sections.specs.Turns.{IsUnbegunIn, TurnShows}
+use Rattle.cluster_site.specs.Given.{IsRepliedAtDone, IsBegunAtWork}
+use Rattle.cluster_site.specs.Flights.{HasPublish, WaitsWhere}
+use Rattle.cluster_site.specs.Turns.{IsUnbegunIn, TurnShows}
 use Rattle.lane_lines.specs.Flushes.{IsFlushing}
 
 -- what the start of a publish shows

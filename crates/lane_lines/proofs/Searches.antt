@@ -27,9 +27,9 @@ use Rattle.cluster_state.specs.Run.{Run}
 use Rattle.cluster_state.specs.State.{ReadsAt}
 use Rattle.cluster_state.specs.declared.turn.Turn.{Turn}
 use Rattle.cluster_state.specs.declared.turn.Turn.TheVariants.{Work, Done, Busy}
-use Rattle.lane_sections.specs.Given.{IsRepliedAtDone, IsBegunAtWork, IsBegunBy, AsksFor}
+use Rattle.cluster_site.specs.Given.{IsRepliedAtDone, IsBegunAtWork, IsBegunBy, AsksFor}
 use Rattle.cluster_state.specs.Calls.{SearchStarts, AsksTicket, AskStarts, asked_event, ScansAt}
-use Rattle.lane_sections.specs.Turns.{NeverWaits, TurnShows}
+use Rattle.cluster_site.specs.Turns.{NeverWaits, TurnShows}
 use Rattle.lane_lines.specs.Reads.{IsReading, IsSearchingNode, IsAskingTicket, IsKnownStart, IsEvaluated}
 
 -- ---- what the starts show

@@ -4,14 +4,14 @@ ghost use Rattle.std.specs.Prelude.{◌≡◌, OnOk};
 ghost use Rattle.history_rules.specs.Lines.{last_of_line};
 ghost use Rattle.history_book.specs.Log.{printed};
 ghost use Rattle.script_serving.specs.declared.script.LineCommand.{LineCommand};
-ghost use Rattle.lane_sections.specs.Given.{AsksFor};
+ghost use Rattle.cluster_site.specs.Given.{AsksFor};
 ghost use Rattle.lane_threads.specs.Seats.{log_seen, IsLaneSeat, EndsItsLine};
 ghost use Rattle.lane_lines.specs.Reads.{IsEvaluated};
 
+use cluster_site::{Gate, Lanes, Site, enter_site};
 use disk_model::FaultDir;
 use documents::{Answer, Query};
 use hist_lock::LaneSeat;
-use lane_sections::{Gate, Lanes, Site, enter_site};
 use lane_threads::leave;
 use nrt_base::{At, NoMemory};
 use std::sync::Wait;

@@ -6,14 +6,14 @@ ghost use Rattle.history_rules.specs.Lines.{entries_of_line};
 ghost use Rattle.history_book.specs.Log.{printed};
 ghost use Rattle.script_serving.specs.declared.script.LineCommand.TheVariants.{Commit};
 ghost use Rattle.lane_threads.specs.Seats.{log_seen, IsLaneSeat, EndsItsLine};
-ghost use Rattle.lane_sections.specs.Flights.{HasCommitAt, WaitsWhere};
-ghost use Rattle.lane_sections.specs.Turns.{IsUnbegunIn, NeverWaits, TurnsLine};
+ghost use Rattle.cluster_site.specs.Flights.{HasCommitAt, WaitsWhere};
+ghost use Rattle.cluster_site.specs.Turns.{IsUnbegunIn, NeverWaits, TurnsLine};
 ghost use Rattle.lane_lines.specs.Commits.{HasBegunCommit, IsCommitting};
 
 use cluster_nodes::CommitTask;
+use cluster_site::{Gate, Lanes, Site, Turn, enter_site, give_way};
 use disk_model::FaultDir;
 use hist_lock::LaneSeat;
-use lane_sections::{Gate, Lanes, Site, Turn, enter_site, give_way};
 use lane_threads::leave;
 use nrt_base::{At, NoMemory, NodeNo};
 use std::sync::Wait;

@@ -8,10 +8,10 @@ ghost use Rattle.script_serving.specs.Form.{is_plan};
 ghost use Rattle.script_serving.specs.declared.script.LineCommand.TheVariants.{Fault};
 ghost use Rattle.lane_threads.specs.Seats.{log_seen, IsLaneSeat, EndsItsLine};
 
+use cluster_site::{Gate, Lanes, Site, enter_site};
 use disk_model::FaultDir;
 use hist_lock::LaneSeat;
 use history_rules::FaultPlan;
-use lane_sections::{Gate, Lanes, Site, enter_site};
 use lane_threads::leave;
 use nrt_base::{At, NoMemory, NodeNo};
 use std::sync::Wait;

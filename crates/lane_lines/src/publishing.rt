@@ -7,13 +7,13 @@ ghost use Rattle.history_book.specs.Log.{printed};
 ghost use Rattle.script_serving.specs.declared.script.LineCommand.TheVariants.{Publish};
 ghost use Rattle.cluster_state.specs.Writes.{IsFlushed};
 ghost use Rattle.lane_threads.specs.Seats.{log_seen, IsLaneSeat, EndsItsLine};
-ghost use Rattle.lane_sections.specs.Flights.{HasPublish, WaitsWhere};
-ghost use Rattle.lane_sections.specs.Turns.{IsUnbegunIn, TurnsLine};
+ghost use Rattle.cluster_site.specs.Flights.{HasPublish, WaitsWhere};
+ghost use Rattle.cluster_site.specs.Turns.{IsUnbegunIn, TurnsLine};
 ghost use Rattle.lane_lines.specs.Flushes.{IsFlushing};
 
+use cluster_site::{Gate, Lanes, Place, Site, Turn, enter_site, give_way};
 use disk_model::FaultDir;
 use hist_lock::LaneSeat;
-use lane_sections::{Gate, Lanes, Place, Site, Turn, enter_site, give_way};
 use lane_threads::leave;
 use nrt_base::{At, NoMemory};
 use segment_steps::{FlushTask, FlushWork, flush};

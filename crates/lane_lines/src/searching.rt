@@ -8,15 +8,15 @@ ghost use Rattle.history_rules.specs.Lines.{entries_of_line};
 ghost use Rattle.history_book.specs.Log.{printed};
 ghost use Rattle.script_serving.specs.declared.script.LineCommand.TheVariants.{Search, Ask};
 ghost use Rattle.lane_threads.specs.Seats.{log_seen, IsLaneSeat, EndsItsLine};
-ghost use Rattle.lane_sections.specs.Turns.{NeverWaits, TurnsLine};
+ghost use Rattle.cluster_site.specs.Turns.{NeverWaits, TurnsLine};
 ghost use Rattle.lane_lines.specs.Reads.{IsSearchingNode, IsAskingTicket};
 
 use crate::answering::answer_line;
 use crate::evaluation::evaluate;
+use cluster_site::{Gate, Lanes, Place, Site, Turn, enter_site};
 use disk_model::FaultDir;
 use documents::Query;
 use hist_lock::LaneSeat;
-use lane_sections::{Gate, Lanes, Place, Site, Turn, enter_site};
 use lane_threads::leave;
 use nrt_base::{At, NoMemory, NodeNo, TicketNo};
 use searcher_switch::Lease;

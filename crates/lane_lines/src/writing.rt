@@ -3,13 +3,13 @@
 ghost use Rattle.std.specs.Prelude.{◌≡◌, [], OnOk};
 ghost use Rattle.history_rules.specs.Lines.{entries_of_line};
 ghost use Rattle.history_book.specs.Log.{printed};
-ghost use Rattle.lane_sections.specs.Given.{writing_command};
+ghost use Rattle.cluster_site.specs.Given.{writing_command};
 ghost use Rattle.lane_threads.specs.Seats.{log_seen, IsLaneSeat, EndsItsLine};
 
+use cluster_site::{Gate, Lanes, Site, enter_site};
 use disk_model::FaultDir;
 use documents::Op;
 use hist_lock::LaneSeat;
-use lane_sections::{Gate, Lanes, Site, enter_site};
 use lane_threads::leave;
 use nrt_base::{At, NoMemory};
 use std::sync::Wait;

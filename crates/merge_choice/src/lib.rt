@@ -58,6 +58,3 @@ pub fn choose(sizes: &[Option<u32>], factor: u32) -> Option<(usize, usize)>
     }
     None
 }
-
-#[cfg(test)]
-mod tests;

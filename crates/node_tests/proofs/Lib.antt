@@ -1,3 +1,4 @@
+mod Copying
 mod Due
 mod Empty
 mod Listing

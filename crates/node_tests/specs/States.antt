@@ -14,8 +14,9 @@ pub record HaveShortNames (names : List Name) (files : List (Name × FileMetaDat
   pub names_are : meta_names files ≡ names
   pub short : All (λ q. length q ≤ 46) names
 
--- the job lacks the part, and wants the metadata that its bytes have
+-- the job lacks the part, whose name is short, and wants the metadata that its bytes have
 pub record IsDuePart (j : Job) (part : Part) : Type 0 where
   pub missing : 0 < times j.missing part.name
   pub wanted : meta_in j.want.files part.name ≡ Some part.meta
   pub meta_is : IsMetaOf part.bytes part.meta
+  pub short : length part.name ≤ 46

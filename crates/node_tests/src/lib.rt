@@ -7,6 +7,8 @@ mod bench;
 #[cfg(test)]
 mod calls;
 #[cfg(test)]
+mod copies;
+#[cfg(test)]
 mod files;
 #[cfg(test)]
 mod finishing;
@@ -17,3 +19,5 @@ mod openings;
 mod seen;
 #[cfg(test)]
 mod tables;
+#[cfg(test)]
+mod takeovers;

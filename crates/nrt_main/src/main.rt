@@ -3,43 +3,24 @@
 #![tactic(auto)]
 
 ghost use Rattle.std.specs.Prelude.{◌≡◌};
-ghost use Rattle.nrt_main.specs.Statuses.{cause_number};
+ghost use Rattle.stream_commands.specs.Statuses.{cause_number};
 
-mod asking;
-mod checking;
-mod gate;
-mod judging;
-mod loading;
-mod message;
-mod nodes;
-mod picturing;
-mod reading;
-#[cfg(test)]
-mod sentences;
 mod standard;
-mod status;
-#[cfg(test)]
-mod tests;
-mod top;
-mod writing;
 
-use crate::gate::OpenGate;
-use crate::message::stream_fault;
 use crate::standard::{StdSink, StdSource};
-use crate::status::Status;
-use crate::top::run_nrt;
-use cluster_run::Cluster;
 use disk_memory::MemDir;
 use index_check::check_image;
-use line_advice::advice;
 use nrt_base::{LineNo, NoMemory};
+pub use nrt_commands::run_nrt;
+use nrt_commands::{Cluster, OpenGate};
 use nrt_streams::Arg;
 use report_judge::{cut_source, explain as why, judge};
 use script_text::{LineFault, parse_script};
 use std::alloc::Global;
 use std::process::ExitCode;
 use std::{env, io};
-use usage_text::{asked, mistake};
+use stream_commands::{Status, stream_fault};
+use usage_text::{advice, asked, mistake};
 
 /// The words of the command line, the program's name first.
 fn texts(rt: &HostRuntime) -> io::Result<Vec<String>> {

@@ -1,13 +1,16 @@
 -- The positions in the first row that is left.
-use Rattle.std.proofs.Common.{◌≡◌, ℕ, zero, suc, ◌+◌, ◌<◌, ◌≤◌, List, [], ◌∷◌, length, Some, None, refl, sym, ap, subst, ◌∙◌, arith}
+use Rattle.std.proofs.Common.{◌≡◌, ℕ, zero, suc, ◌+◌, ◌-◌, ◌<◌, ◌≤◌, List, [], ◌∷◌, ◌++◌, length, take, drop, get_or, Some, None, refl, sym, ap, subst, ◌∙◌, arith}
 use Rattle.std.specs.List.{AllByRecursion}
 use Rattle.std.specs.List.Sorted.{IsStrictlySortedBy}
 use Rattle.std.specs.Ordering.{nat_cmp}
 use Rattle.std.specs.declared.cmp.Ordering.TheVariants.{Less}
+use Rattle.std.proofs.lemmas.Bool.{lt-ltb}
 use Rattle.std.proofs.lemmas.Bool.Decides.{nat_tests}
+use Rattle.std.proofs.lemmas.List.{take_all}
 use Rattle.codec_frame.specs.Bytes.{AreBytes}
 use Rattle.body_forms.specs.Format.{Read, ◌>>=◌, chain_at, ChainFits}
-use Rattle.body_forms.specs.Numbers.{MayCome, difference_at, above, positive_at, ascending_at}
+use Rattle.body_forms.specs.VInts.{vint, vint_within}
+use Rattle.body_forms.specs.Numbers.{MayCome, difference_at, above, positive_at, ascending, ascending_at}
 use Rattle.body_forms.proofs.Formats.{bind_some, read_is}
 use Rattle.body_forms.proofs.NumberLaws.{ascending_format}
 use Rattle.postings_plain.specs.Postings.{Hit}
@@ -101,6 +104,28 @@ pub counts_positions : (field : ℕ) (bytes xs rest : List ℕ) (count : ℕ) (a
     → (positions : List ℕ) × (positions_at field bytes ≡ Some (positions, rest)) × (length positions ≡ count)
 counts_positions zero bytes xs rest count after pos e r = absurd (omega arith)
 counts_positions (suc field) bytes xs rest count after pos e r = (xs, e, length-places bytes xs rest count after e r)
+
+small_vint : (n : ℕ) → n < 128 → vint n ≡ n ∷ []
+unfolding vint_within
+small_vint n h = rw (lt-ltb n 128 h) refl
+
+-- one position, of one byte
+one_place : (p : ℕ) (rest : List ℕ) → p < 128 → ascending_at (1 ∷ p ∷ rest) ≡ Some (p ∷ [], rest)
+one_place p rest small =
+    let same : p - (0 - 1) ≡ p = omega arith in
+    let text : ascending (p ∷ []) ≡ 1 ∷ p ∷ [] = ap (λ (k : ℕ). vint 1 ++ (vint k ++ [])) same ∙ ap (λ (t : List ℕ). t ++ (vint p ++ [])) (small_vint 1 (omega arith)) ∙ ap (λ (t : List ℕ). 1 ∷ (t ++ [])) (small_vint p small) in
+    subst (λ (t : List ℕ). ascending_at (t ++ rest) ≡ Some (p ∷ [], rest)) text (ascending_format.again (p ∷ []) rest ((omega arith, omega arith), ((omega arith, omega (arith, small)), tt)))
+
+pub one_position : (bytes : List ℕ) → 2 ≤ length bytes → get_or bytes 0 0 ≡ 1 → get_or bytes 1 0 < 128 → (x : ℕ) × (ascending_at bytes ≡ Some (x ∷ [], take (length bytes - 2) (drop 2 bytes)))
+one_position [] len is small = absurd (omega (arith, len))
+one_position (b ∷ []) len is small = absurd (omega (arith, len))
+one_position (b ∷ p ∷ rest) len is small =
+    let after : take (suc (suc (length rest)) - 2) rest ≡ rest = take_all _ rest (omega arith) in
+    (p, ap (λ (c : ℕ). ascending_at (c ∷ p ∷ rest)) is ∙ one_place p rest small ∙ ap (λ (xs : List ℕ). Some (p ∷ [], xs)) (sym after))
+
+pub skips_one : (field : ℕ) (bytes rest : List ℕ) → 0 < field → (position : ℕ) × (ascending_at bytes ≡ Some (position ∷ [], rest)) → (positions : List ℕ) × (positions_at field bytes ≡ Some (positions, rest)) × (length positions ≡ 1)
+skips_one zero bytes rest pos one = absurd (omega arith)
+skips_one (suc field) bytes rest pos one = (one.0 ∷ [], one.1, refl)
 
 -- as many as are left to be read
 pub length-left : (n k : ℕ) (bytes : List ℕ) → AreNumbers (chain_at difference_at above n k bytes) → length (numbers_or_none (chain_at difference_at above n k bytes)) ≡ n

@@ -1,8 +1,9 @@
 //! The parts of an entry, read past.
 
-ghost use Rattle.std.specs.Prelude.{◌≡◌, ◌<◌, ◌≤◌, ◌^◌, ℕ, List, Some, IfSome};
-ghost use Rattle.std.specs.Option.{option_map};
+ghost use Rattle.std.specs.Prelude.{◌≡◌, ◌<◌, ◌≤◌, ◌^◌, ℕ, List, [], ◌∷◌, Some, IfSome, true, ◌↔◌, length, slice_index_or};
+ghost use Rattle.std.specs.Option.{option_map, is_some};
 ghost use Rattle.body_forms.specs.Format.{Skips};
+ghost use Rattle.body_forms.specs.Numbers.{ascending_at};
 ghost use Rattle.postings_plain.specs.Postings.{Skip};
 ghost use Rattle.postings_plain.specs.Reading.{SkipsHit, CountsPositions, CountsHitPositions, SkipsHits, SkipsEntry, counted_from_at, field_at, term_at, positions_at, hit_at, skips_at, blocks_at, rows_of_term_at, hits_at, entry_at};
 
@@ -40,14 +41,29 @@ pub fn term_of(bytes: &[u8]) -> Option<(&[u8], &[u8])>
     }
 }
 
+// Reads past the positions of a word that stands once in its row, at a position of one byte, as most words do.
+fn skip_one(bytes: &[u8]) -> Option<&[u8]>
+    ensures position { IfSome result (λ rest. (position : ℕ)
+        × (ascending_at bytes.now ≡ Some (position ∷ [], rest.now))) }
+    ensures taken { is_some result ≡ true ↔ ((2 ≤ length bytes.now)
+        × (slice_index_or bytes.now 0 0 ≡ 1) × (slice_index_or bytes.now 1 0 < 128)) }
+{
+    match bytes {
+        [count, position, rest @ ..] if *count == 1 && *position < 128 => Some(rest),
+        _ => None,
+    }
+}
+
 // Reads past the positions of a hit.
 fn skip_positions(field: u8, bytes: &[u8]) -> Option<&[u8]>
     ensures { Skips (option_map (λ r. r.now) result) (positions_at field bytes.now) }
 {
     if field == 0 {
-        Some(bytes)
-    } else {
-        skip_ascending(bytes)
+        return Some(bytes);
+    }
+    match skip_one(bytes) {
+        Some(rest) => Some(rest),
+        None => skip_ascending(bytes),
     }
 }
 
@@ -69,6 +85,9 @@ fn count_positions(field: u8, bytes: &[u8]) -> Option<(u32, &[u8])>
 {
     if field == 0 {
         return Some((0, bytes));
+    }
+    if let Some(rest) = skip_one(bytes) {
+        return Some((1, rest));
     }
     let (count, _) = positive_of(bytes)?;
     let rest = skip_ascending(bytes)?;

@@ -1,6 +1,6 @@
 -- Hits in order, one more of them, and the first 20.
 use Rattle.std.proofs.Common.{◌≡◌, ℕ, zero, suc, ◌+◌, ◌<◌, ◌≤◌, List, [], ◌∷◌, length, take, get_or, Bool, true, false, Option, Some, None, refl, sym, ap, subst, ◌∙◌, inl, inr, arith, add-one}
-use Rattle.std.specs.Prelude.{nat_lt, slice_get, IfSome, IsTrue}
+use Rattle.std.specs.Prelude.{nat_lt, slice_get, slice_index_or, MatchBool, IfSome, IsTrue}
 use Rattle.std.specs.List.{insert}
 use Rattle.std.specs.Ordering.{is_lt, nat_cmp, ordering_reverse}
 use Rattle.std.proofs.lemmas.Cmp.{nat_cmp_total}
@@ -18,8 +18,10 @@ use Rattle.documents.specs.Ranking.{hit_cmp, answer_of}
 use Rattle.documents.specs.Documents.{key_cmp}
 use Rattle.documents.proofs.InOrderLemmas.{not_behind, before_too, hit_cmp_total}
 use Rattle.seg_reader.specs.Placing.{place_in, IsPlacing}
+use Rattle.seg_reader.specs.Shown.{Shown}
 use Rattle.query_eval.specs.declared.best.Bar.{Bar}
 use Rattle.query_eval.specs.Best.{hit_with, count_ahead, AreBest, AreBeyond, CountsHit, IsBar}
+use Rattle.query_eval.specs.Matching.{CountsRow}
 
 abbrev with_hit : List Hit → Hit → List Hit
 with_hit hits hit = with_item hit_cmp hits hit
@@ -347,3 +349,11 @@ module _ (docs : List Doc) (places : List ℕ) where
 pub each_doc : (o : Option Doc) (rank : ℕ) (old new : Answer) → ((doc : Doc) → o ≡ Some doc → CountsHit (hit_with doc.key rank) old new) → IfSome o (λ doc. CountsHit (hit_with doc.key rank) old new)
 each_doc None rank old new each = tt
 each_doc (Some doc) rank old new each = each doc refl
+
+-- a live row was counted
+pub live_counts : (seg : Shown) (row rank : ℕ) (old new : Answer) → slice_index_or seg.live row false ≡ true → IfSome (slice_get seg.docs row) (λ doc. CountsHit (hit_with doc.key rank) old new) → CountsRow seg row rank old new
+live_counts seg row rank old new live counts = by_doc (slice_get seg.docs row) counts
+  where
+    by_doc : (o : Option Doc) → IfSome o (λ doc. CountsHit (hit_with doc.key rank) old new) → IfSome o (λ doc. MatchBool (slice_index_or seg.live row false) (CountsHit (hit_with doc.key rank) old new) (new ≡ old))
+    by_doc None is = tt
+    by_doc (Some doc) is = rw live is

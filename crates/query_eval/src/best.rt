@@ -1,10 +1,11 @@
 //! The best 20 of the hits that are counted.
 
-ghost use Rattle.std.specs.Prelude.{◌≡◌, ◌+◌, ◌<◌, ◌≤◌, ◌^◌, [], length, slice_get, IsTrue, IfSome, OnOk};
+ghost use Rattle.std.specs.Prelude.{◌≡◌, ◌+◌, ◌<◌, ◌≤◌, ◌^◌, [], length, slice_get, false, IsTrue, IfSome, OnOk};
 ghost use Rattle.std.specs.Ordering.{is_lt};
 ghost use Rattle.documents.specs.Ranking.{answer_of, hit_cmp};
 ghost use Rattle.seg_reader.specs.Placing.{IsPlacing, place_in};
 ghost use Rattle.query_eval.specs.Best.{count_ahead as count_ahead_lem, hit_with, AreBest, AreBeyond, CountsHit, IsBar};
+ghost use Rattle.query_eval.specs.Matching.{CountsRow};
 
 use documents::{Answer, Hit};
 use nrt_base::{Key, List, NoMemory};
@@ -102,6 +103,32 @@ impl BestHits {
             total: 0,
             hits: Vec::new(alloc),
         }
+    }
+
+    /// Counts a row of this rank, if it is live, where its hit is refused unread; and says whether it is.
+    pub fn add_refused(
+        &mut self,
+        seg: &Segment,
+        places: &[u32],
+        bar: &Bar,
+        row: u32,
+        rank: u32,
+    ) -> bool
+        requires row { row < length seg.now.docs }
+        requires rows { length places.now ≡ length seg.now.docs }
+        requires bar { IsBar seg.now.docs places.now bar.now self.old.hits }
+        requires room { self.old.total + 1 < 2 ^ 32 }
+        ensures refused { IsTrue result → CountsRow seg.now row rank self.old self.new }
+        ensures other { result ≡ false → self.new ≡ self.old }
+        ensures bar { IsBar seg.now.docs places.now bar.now self.new.hits }
+    {
+        if bar.refuses(rank, places[row as usize]) {
+            if seg.is_live(row) {
+                self.total += 1;
+            }
+            return true;
+        }
+        false
     }
 
     /// Counts the document of a row, which has this rank. Its key is read only where it may come among the first 20: behind a

@@ -63,6 +63,10 @@ fn search_word(
     let places = seg.places();
     let mut bar = Bar::new();
     while let Some((row, times)) = hits.next_hit() {
+        // Most hits of a word that many rows have end here, without a further call.
+        if best.add_refused(seg, places, &bar, row, times) {
+            continue;
+        }
         count_ranked(alloc, seg, places, row, times, &mut bar, best)?;
     }
     Ok(())

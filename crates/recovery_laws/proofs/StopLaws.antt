@@ -25,7 +25,8 @@ use Rattle.replica_opening.specs.Opened.{IsSettledOn}
 use Rattle.replica_opening.proofs.Clearings.{one_found}
 use Rattle.replica_opening.proofs.Settled.{restarted_settled}
 use Rattle.replica_node.specs.declared.parts.ReplicaParts.{ReplicaParts}
-use Rattle.recovery_laws.specs.Stops.{IsFoundAs, staged_commit, IsStillInFlight, CommitGoesOn, FindsCommit, OpensAt, StandsAt, StandsAgain, HasInfosAgain}
+use Rattle.replica_node.specs.Starting.{OpensOn}
+use Rattle.recovery_laws.specs.Stops.{IsFoundAs, staged_commit, IsStillInFlight, CommitGoesOn, FindsCommit, StandsAt, StandsAgain, HasInfosAgain}
 
 -- ---- a crash
 
@@ -146,10 +147,10 @@ module _ {D : Type 0} (was : ReplicaParts D) (before after : Cells) (crash : Has
   -- ---- what is opened
 
   module _ (cells : D → Cells) (here : before ≡ cells was.dir) (dir : D) (there : after ≡ cells dir) where
-    finds_here : (now : ReplicaParts D) → OpensAt cells dir now → FindsPoint image (number_of_last now.commits.last) now.infos
+    finds_here : (now : ReplicaParts D) → OpensOn cells dir now → FindsPoint image (number_of_last now.commits.last) now.infos
     finds_here now opens = subst (λ (i : Image). FindsPoint i (number_of_last now.commits.last) now.infos) (sym (ap reads_of there) ∙ same_reads) opens.point
 
-    stands_at : (now : ReplicaParts D) → OpensAt cells dir now → (c : Commit) → HasStanding before image c → StandsAt cells was now c
+    stands_at : (now : ReplicaParts D) → OpensOn cells dir now → (c : Commit) → HasStanding before image c → StandsAt cells was now c
     stands_at now opens c has =
         let infos : now.infos ≡ c.infos = (one_found image (number_of_last now.commits.last) (Some c.number) now.infos c.infos (finds_here now opens) has.has.shown).1 in
         record {
@@ -160,7 +161,7 @@ module _ {D : Type 0} (was : ReplicaParts D) (before after : Cells) (crash : Has
               (subst (λ (i : Image). StandsFor i now.infos has.docs) (sym same_reads ∙ ap reads_of there) (subst (λ (x : Infos). StandsFor image x has.docs) (sym infos) has.image_stands));
         }
 
-    stands_again : (now : ReplicaParts D) → OpensAt cells dir now → StandsAgain cells was now
+    stands_again : (now : ReplicaParts D) → OpensOn cells dir now → StandsAgain cells was now
     stands_again now opens = by (stand.each image crash.1)
       where
         by : (ShowsNothing image × (was.commits.last ≡ None)) ⊎ (IsSomeAnd was.commits.last (HasStanding before image) ⊎ IsSomeAnd (shown_by was.commits.stage) (HasStanding before image)) → StandsAgain cells was now
@@ -172,7 +173,7 @@ module _ {D : Type 0} (was : ReplicaParts D) (before after : Cells) (crash : Has
             let c = chosen (shown_by was.commits.stage) (HasStanding before image) has in
             inr (inr (some_and (shown_by was.commits.stage) (StandsAt cells was now) c.commit c.is (stands_at now opens c.commit c.has)))
 
-    pub reopened : (result : Result (ReplicaParts D) StartFault) → IfOk result (OpensAt cells dir) → IfOk result (StandsAgain cells was)
+    pub reopened : (result : Result (ReplicaParts D) StartFault) → IfOk result (OpensOn cells dir) → IfOk result (StandsAgain cells was)
     reopened (Ok now) opens = stands_again now opens
     reopened (Err fault) opens = tt
 

@@ -9,7 +9,7 @@ use Rattle.commit_steps.specs.declared.states.Commit.{Commit}
 use Rattle.commit_steps.specs.declared.stage.Stage.{Stage}
 use Rattle.commit_steps.specs.declared.stage.CommitBook.{CommitBook}
 use Rattle.commit_steps.specs.Book.{commit_of, shown_by}
-use Rattle.replica_opening.specs.Opening.{FindsPoint, number_of_last, opening_infos}
+use Rattle.replica_opening.specs.Opening.{opening_infos}
 use Rattle.replica_node.specs.declared.parts.ReplicaParts.{ReplicaParts}
 use Rattle.replica_node.specs.Starting.{SearchesJust}
 
@@ -36,11 +36,6 @@ module _ {D : Type 0} where
   abbrev pub FindsCommit : ReplicaParts D → Option (ℕ × Infos) → Type 0
   FindsCommit was None = was.commits.last ≡ None
   FindsCommit was (Some found) = IsSomeAnd was.commits.last (IsFoundAs found) ⊎ IsSomeAnd (shown_by was.commits.stage) (IsFoundAs found)
-
-  -- a node opened on a directory: it has the infos of the point that this shows, and searches just the documents that the infos are of there
-  pub record OpensAt (cells : D → Cells) (dir : D) (now : ReplicaParts D) : Type 0 where
-    pub point : FindsPoint (reads_of (cells dir)) (number_of_last now.commits.last) now.infos
-    pub documents : (docs : List Doc) → StandsFor (reads_of (cells dir)) now.infos docs → SearchesJust cells docs now
 
   -- a node searches the point of a commit that this node had, and just the documents that the commit was of
   pub record StandsAt (cells : D → Cells) (was now : ReplicaParts D) (c : Commit) : Type 0 where

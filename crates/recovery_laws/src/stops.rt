@@ -5,7 +5,8 @@ ghost use Rattle.disk_model.specs.Disk.{HasCrashed};
 ghost use Rattle.commit_steps.specs.Recovery.{IsCutOff};
 ghost use Rattle.replica_opening.specs.Opened.{IsSettledOn};
 ghost use Rattle.replica_node.specs.Replica.{AreStanding};
-ghost use Rattle.recovery_laws.specs.Stops.{FindsCommit, CommitGoesOn, IsStillInFlight, OpensAt, StandsAgain, HasInfosAgain};
+ghost use Rattle.replica_node.specs.Starting.{OpensOn};
+ghost use Rattle.recovery_laws.specs.Stops.{FindsCommit, CommitGoesOn, IsStillInFlight, StandsAgain, HasInfosAgain};
 
 use commit_steps::{RecoverFault, recover};
 use disk_model::FaultDir;
@@ -26,7 +27,7 @@ fn left_by_crash<D: FaultDir + Drop>(dir: D, pick: u64) -> Result<D, NoMemory>
 // A replica on a directory, and what it stands at.
 fn opens_on<D: FaultDir + Drop>(alloc: Global, dir: D) -> Result<Replica<D>, StartFault>
     requires { IsSettledOn (D.cells dir) }
-    ensures { IfOk result (OpensAt D.cells dir) }
+    ensures { IfOk result (OpensOn D.cells dir) }
 {
     match Replica::start_from(alloc, dir) {
         Ok(again) => Ok(again),

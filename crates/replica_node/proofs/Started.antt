@@ -33,7 +33,10 @@ use Rattle.std.specs.Prelude.{IfSome, IsSomeAnd}
 use Rattle.std.proofs.lemmas.Option.{same_Some, none-some}
 use Rattle.searcher_switch.specs.Appearing.{NoneAppears}
 use Rattle.searcher_switch.proofs.Appearing.{there_or}
-use Rattle.replica_node.specs.Starting.{HasJustItsFiles}
+use Rattle.nrt_base.specs.declared.doc.Doc.{Doc}
+use Rattle.seg_reader.specs.Stands.{StandsFor}
+use Rattle.replica_node.specs.Starting.{HasJustItsFiles, SearchesJust, OpensOn}
+use Rattle.replica_node.proofs.Documents.{readers_search, stands_back}
 use Rattle.segment_infos.specs.declared.infos.Infos.{Infos}
 use Rattle.commit_steps.specs.declared.states.Commit.{Commit}
 use Rattle.commit_steps.specs.declared.stage.Stage.{Stage}
@@ -47,7 +50,7 @@ last_stands reads infos None is stands = tt
 last_stands reads infos (Some c) is stands = subst (λ (i : Infos). StandsForSome reads i) (sym is.1) stands
 
 -- the commit that was found is of the point's documents
-pub book_stands : (reads : Name → Content) (infos : Infos) (book : CommitBook) → IfSome book.last (λ c. IsCommit c × (c.infos ≡ infos)) → book.stage ≡ None → StandsForSome reads infos → IsStanding reads book
+book_stands : (reads : Name → Content) (infos : Infos) (book : CommitBook) → IfSome book.last (λ c. IsCommit c × (c.infos ≡ infos)) → book.stage ≡ None → StandsForSome reads infos → IsStanding reads book
 book_stands reads infos book last none stands = record {
   last = last_stands reads infos book.last last stands;
   flight = subst (λ (o : Option Stage). IfSome o (λ s. StandsForSome reads (commit_of s).infos)) (sym none) tt;
@@ -78,7 +81,7 @@ module _ (cells : Cells) (o : Opened) (node : IsWholeNode cells o.files (searche
       by zero e = absurd (omega (arith, e, some, all, own (same (own_name c) q) refl))
       by (suc n) e = subst (λ (i : Infos). Contains (flat_map files_of_segment i.segs) q) commit.1 (among_file c.infos c.files commit.0.files q (some_among c.files q (omega (arith, e))))
 
-  pub file_opened : (q : Name) → IsLasting q → 0 < count_of o.files q → Contains (flat_map files_of_segment o.infos.segs) q
+  file_opened : (q : Name) → IsLasting q → 0 < count_of o.files q → Contains (flat_map files_of_segment o.infos.segs) q
   file_opened q lasting some = by (times o.searchers.point.names q) refl
     where
       tickets : times (ticket_names o.searchers.tickets) q ≡ 0
@@ -180,7 +183,7 @@ module _ {D : Type 0} (cells : D → Cells) (dir : D) (o : Opened) (node : IsWho
       each = λ q there. elim (name_opened (cells dir) o node is listed q there) [ inl file ↦ inl file | inr of ↦ inr (last_name o.commits.last q of) ];
     }
 
-    pub none_opened : (before : Cells) → IsHandedBack before (cells dir) → FindsPoint (reads_of before) (number_of_last o.commits.last) o.infos → NoneAppears before (cells dir)
+    none_opened : (before : Cells) → IsHandedBack before (cells dir) → FindsPoint (reads_of before) (number_of_last o.commits.last) o.infos → NoneAppears before (cells dir)
     none_opened before back finds = record { each = λ q none. by q none (there_or (cells dir q).now) }
       where
         by : (q : Name) → (before q).now ≡ None → ((cells dir q).now ≡ None) ⊎ (is_some (cells dir q).now ≡ true) → (cells dir q).now ≡ None
@@ -198,9 +201,40 @@ module _ {D : Type 0} (cells : D → Cells) (dir : D) (o : Opened) (node : IsWho
   pub whole_opened : IsWholeReplica cells (opened_parts dir o seen copies)
   whole_opened = subst (λ (k : MergeCopies). IsWholeReplica cells (opened_parts dir o seen k)) (sym empty) (just_opened cells dir o node is seen)
 
-  pub sourced_opened : (before : Cells) (number : Option ℕ) → IsHandedBack before (cells dir) → FindsPoint (reads_of before) number o.infos → (source : Name → Content)
+  sourced_opened : (before : Cells) (number : Option ℕ) → IsHandedBack before (cells dir) → FindsPoint (reads_of before) number o.infos → (source : Name → Content)
       → ((q : Name) → Contains (flat_map files_of_segment o.infos.segs) q → (before q).now ≡ source q) → IsSourced source cells (opened_parts dir o seen copies)
   sourced_opened before number back finds source reads = subst (λ (k : MergeCopies). IsSourced source cells (opened_parts dir o seen k)) (sym empty) (just_sourced cells dir o node is seen before number back finds source reads)
 
-  pub its_opened : ((q : Name) → is_some (cells dir q).now ≡ is_among (searcher_names o.searchers ++ book_names o.commits) q) → HasJustItsFiles cells (opened_parts dir o seen copies)
+  its_opened : ((q : Name) → is_some (cells dir q).now ≡ is_among (searcher_names o.searchers ++ book_names o.commits) q) → HasJustItsFiles cells (opened_parts dir o seen copies)
   its_opened listed = subst (λ (k : MergeCopies). HasJustItsFiles cells (opened_parts dir o seen k)) (sym empty) (just_its cells dir o node is seen listed)
+
+  module _ (same : seen ≡ o.infos.generation) (listed : (q : Name) → is_some (cells dir q).now ≡ is_among (searcher_names o.searchers ++ book_names o.commits) q)
+      (was : D) (back : IsHandedBack (cells was) (cells dir)) (finds : FindsPoint (reads_of (cells was)) (number_of_last o.commits.last) o.infos) where
+    searches : (docs : List Doc) → StandsFor (reads_of (cells was)) o.infos docs → SearchesJust cells docs (opened_parts dir o seen copies)
+    searches docs h =
+        let after = stands_back (cells was) (cells dir) (number_of_last o.commits.last) o.infos docs back finds h in
+        record {
+          searched = readers_search (reads_of (cells dir)) o.infos o.searchers.point.readers docs is.readers after;
+          stands = after;
+          standing = record {
+            point = record { docs = docs; stands = after };
+            commits = book_stands (reads_of (cells dir)) o.infos o.commits is.last is.none (record { docs = docs; stands = after });
+          };
+        }
+
+    pub opens_on : OpensOn cells was (opened_parts dir o seen copies)
+    opens_on = record {
+      whole = whole_opened;
+      point = finds;
+      documents = searches;
+      sourced = sourced_opened (cells was) (number_of_last o.commits.last) back finds;
+      held = file_opened (cells dir) o node is;
+      fresh = record { stage = is.none; tickets = is.tickets; job = refl; copies = empty; jobs = refl; seen = same };
+      back = back;
+      appears = none_opened cells dir o node is seen listed (cells was) back finds;
+      only = its_opened listed;
+    }
+
+-- what is handed back is what was there
+pub back_same : (cells : Cells) → IsHandedBack cells cells
+back_same cells = record { shown = λ number infos h. h; files = λ number infos h q named. refl; settled = λ h. h }

@@ -109,6 +109,7 @@ impl<D: Dir> Replica<D> {
     {
         let number = self.parts.jobs + 1;
         let Ok(infos) = infos_of(alloc, &state) else {
+            drop(state);
             return Err(JobFault::Memory);
         };
         let Ok(held) = held_of(
@@ -117,14 +118,23 @@ impl<D: Dir> Replica<D> {
             &self.parts.known,
             &self.parts.files,
         ) else {
+            drop(state);
+            drop(infos);
             return Err(JobFault::Memory);
         };
         let mut copy = match CopyJob::begin(alloc, number, JobKind::Point, state, held.as_slice()) {
             Ok(copy) => copy,
-            Err(fault) => return Err(fault),
+            Err(fault) => {
+                drop(held);
+                drop(infos);
+                return Err(fault);
+            }
         };
+        drop(held);
         told(&copy);
         let Ok(()) = self.parts.files.hold_there(copy.reused(), &self.parts.dir) else {
+            drop(copy);
+            drop(infos);
             return Err(JobFault::Memory);
         };
         end_overlapping(

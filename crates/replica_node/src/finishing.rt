@@ -121,6 +121,9 @@ impl<D: Dir> Replica<D> {
                     .files
                     .release(point.gone.as_slice(), &mut self.parts.dir);
                 self.parts.known.keep_held(&self.parts.files);
+                drop(point.gone);
+                drop(dropped);
+                drop(copy);
                 self.parts.copies.pending = pending;
                 self.parts.segs = point.segs;
                 self.parts.infos = infos;
@@ -128,6 +131,8 @@ impl<D: Dir> Replica<D> {
             }
             Err(fault) => {
                 told(&copy);
+                drop(dropped);
+                drop(pending);
                 self.parts.job = Some(PointJob {
                     copy,
                     infos,

@@ -1,22 +1,16 @@
 //! The replica.
 
-ghost use Rattle.std.specs.Prelude.{◌≡◌, ◌<◌, ◌≤◌, ℕ, List, None, Ok, IfOk, IfErr, MatchResult, Contains, is_some};
-ghost use Rattle.std.specs.List.{flat_map};
-ghost use Rattle.nrt_base.specs.declared.doc.Doc.{Doc};
-ghost use Rattle.disk_model.specs.Disk.{Name, Content, reads_of, is_among};
+ghost use Rattle.std.specs.Prelude.{◌≡◌, ◌++◌, ◌<◌, ◌≤◌, ℕ, List, None, Ok, IfOk, IfErr, MatchResult, is_some};
+ghost use Rattle.disk_model.specs.Disk.{Name, reads_of, is_among};
 ghost use Rattle.std.specs.Cmp.Lexicographic.{slice_cmp};
 ghost use Rattle.std.specs.Ordering.{nat_cmp};
 ghost use Rattle.std.specs.List.Sorted.{IsStrictlySortedBy};
-ghost use Rattle.file_deleter.specs.Holdings.{count_of};
-ghost use Rattle.segment_infos.specs.Files.{files_of_segment};
-ghost use Rattle.seg_reader.specs.Stands.{StandsFor};
-ghost use Rattle.searcher_switch.specs.Appearing.{NoneAppears};
+ghost use Rattle.searcher_switch.specs.Node.{IsWholeNode};
+ghost use Rattle.searcher_switch.specs.Searching.{searcher_names};
 ghost use Rattle.replica_opening.specs.declared.fault.StartFault.{StartFault};
-ghost use Rattle.replica_opening.specs.Known.{IsLasting};
 ghost use Rattle.replica_opening.specs.Opening.{FindsPoint, number_of_last, IsStartRefusal, IsStartCutOff, IsCutOffOr, CanOpen};
-ghost use Rattle.replica_opening.specs.Opened.{IsSettledOn, IsHandedBack};
-ghost use Rattle.replica_node.specs.Sources.{IsSourced};
-ghost use Rattle.replica_node.specs.Starting.{IsJustOpened, SearchesJust, HasJustItsFiles};
+ghost use Rattle.replica_opening.specs.Opened.{IsSettledOn, IsNodeOpened, IsHandedBack};
+ghost use Rattle.replica_node.specs.Starting.{OpensOn};
 ghost use Rattle.replica_node.specs.Refusals.{IsHandedOut};
 ghost use Rattle.replica_node.specs.Replica.{IsWholeReplica};
 
@@ -26,7 +20,7 @@ use disk_model::{Dir, FaultDir};
 use file_names::FileName;
 use merge_precopy::Precopies;
 use nrt_base::{Gen, NoMemory, Version};
-use replica_opening::{StartFault, open};
+use replica_opening::{Opened, StartFault, open, open_empty};
 use std::alloc::Global;
 use std::marker::Model;
 
@@ -55,12 +49,9 @@ impl<D: Dir> Model for Replica<D> {
 }
 
 impl<D: Dir> Replica<D> {
-    ghost use Rattle.disk_model.specs.Disk.{Name, Content};
-    ghost use Rattle.seg_reader.specs.Stands.{StandsFor};
-    ghost use Rattle.nrt_base.specs.declared.doc.Doc.{Doc};
-    ghost use Rattle.file_deleter.specs.Holdings.{count_of};
-    ghost use Rattle.commit_steps.specs.Book.{shown_by};
-    ghost use Rattle.replica_node.specs.Sources.{IsSourced, KeepsSource, HoldsOnly};
+    ghost use Rattle.disk_model.specs.Disk.{Name};
+    ghost use Rattle.commit_steps.specs.Book.{shown_by, book_names};
+    ghost use Rattle.replica_node.specs.Sources.{KeepsSource, HoldsOnly};
     ghost use Rattle.replica_node.specs.Replica.{IsWholeReplica, AreStanding};
     ghost use Rattle.searcher_switch.specs.Standing.{ImagesStand};
 
@@ -68,21 +59,7 @@ impl<D: Dir> Replica<D> {
     /// file is removed. Each image of the directory must show what the directory shows, as after a crash.
     pub fn start_from(alloc: Global, dir: D) -> Result<Replica<D>, Refused<D>>
         requires { IsSettledOn (D.cells dir) }
-        // Where it stands, what it searches, and what it holds.
-        ensures whole { IfOk result (IsWholeReplica D.cells) }
-        ensures point { IfOk result (λ p.
-            FindsPoint (reads_of (D.cells dir)) (number_of_last p.commits.last) p.infos) }
-        ensures documents { IfOk result (λ p. (docs : List Doc)
-            → StandsFor (reads_of (D.cells dir)) p.infos docs → SearchesJust D.cells docs p) }
-        ensures sourced { IfOk result (λ p. (source : Name → Content)
-            → ((q : Name) → Contains (flat_map files_of_segment p.infos.segs) q
-            → (D.cells dir q).now ≡ source q) → IsSourced source D.cells p) }
-        ensures held { IfOk result (λ p. (q : Name) → IsLasting q → 0 < count_of p.files q
-            → Contains (flat_map files_of_segment p.infos.segs) q) }
-        ensures fresh { IfOk result IsJustOpened }
-        ensures back { IfOk result (λ p. IsHandedBack (D.cells dir) (D.cells p.dir)) }
-        ensures appears { IfOk result (λ p. NoneAppears (D.cells dir) (D.cells p.dir)) }
-        ensures only { IfOk result (HasJustItsFiles D.cells) }
+        ensures opened { IfOk result (OpensOn D.cells dir) }
 
         // Each refusal, in both directions.
         ensures refused { IfErr result (IsHandedOut D.cells D.faults dir) }
@@ -96,28 +73,41 @@ impl<D: Dir> Replica<D> {
     {
         let mut dir = dir;
         match open(alloc, &mut dir) {
-            Ok(opened) => {
-                let seen = opened.infos.generation;
-                let parts = ReplicaParts {
-                    dir,
-                    files: opened.files,
-                    searchers: opened.searchers,
-                    commits: opened.commits,
-                    infos: opened.infos,
-                    segs: opened.segs,
-                    seen,
-                    jobs: 0,
-                    job: None,
-                    copies: MergeCopies {
-                        running: RunningCopies::new(alloc),
-                        pending: Precopies::none(alloc),
-                    },
-                    known: opened.known,
-                };
-                Ok(Replica { parts })
-            }
+            Ok(opened) => Ok(Replica::of_opened(alloc, dir, opened)),
             Err(fault) => Err(Refused { dir, fault }),
         }
+    }
+
+    // The replica of a node that was opened on its directory.
+    fn of_opened(alloc: Global, dir: D, opened: Opened) -> Replica<D>
+        requires opened { IsNodeOpened (reads_of (D.cells dir)) opened }
+        requires node { IsWholeNode (D.cells dir) opened.files (searcher_names opened.searchers)
+            opened.commits }
+        requires names { (q : Name) → is_some (D.cells dir q).now
+            ≡ is_among (searcher_names opened.searchers ++ book_names opened.commits) q }
+        ensures dir { result.dir ≡ dir }
+        ensures opens { (was : D) → IsHandedBack (D.cells was) (D.cells dir)
+            → FindsPoint (reads_of (D.cells was)) (number_of_last opened.commits.last) opened.infos
+            → OpensOn D.cells was result }
+    {
+        let seen = opened.infos.generation;
+        let parts = ReplicaParts {
+            dir,
+            files: opened.files,
+            searchers: opened.searchers,
+            commits: opened.commits,
+            infos: opened.infos,
+            segs: opened.segs,
+            seen,
+            jobs: 0,
+            job: None,
+            copies: MergeCopies {
+                running: RunningCopies::new(alloc),
+                pending: Precopies::none(alloc),
+            },
+            known: opened.known,
+        };
+        Replica { parts }
     }
 
     /// The version that is searched.
@@ -176,18 +166,44 @@ impl<D: Dir> Replica<D> {
         let Replica { parts } = self;
         let ReplicaParts {
             dir,
-            files: _,
-            searchers: _,
-            commits: _,
-            infos: _,
-            segs: _,
+            files,
+            searchers,
+            commits,
+            infos,
+            segs,
             seen: _,
             jobs: _,
-            job: _,
-            copies: _,
-            known: _,
+            job,
+            copies,
+            known,
         } = parts;
+        drop(files);
+        drop(searchers);
+        drop(commits);
+        drop(infos);
+        drop(segs);
+        drop(job);
+        drop(copies);
+        drop(known);
         dir
+    }
+}
+
+impl<D: Dir + Drop> Replica<D> {
+    /// Opens a replica on a directory that has no file: it stands at the opening point. It makes no call of the disk.
+    pub fn start_empty(alloc: Global, dir: D) -> Result<Replica<D>, NoMemory>
+        requires empty { (q : Name) → (D.cells dir q).now ≡ None }
+        requires settled { IsSettledOn (D.cells dir) }
+        ensures opened { IfOk result (OpensOn D.cells dir) }
+        ensures dir { IfOk result (λ p. p.dir ≡ dir) }
+    {
+        match open_empty(alloc, &dir) {
+            Ok(opened) => Ok(Replica::of_opened(alloc, dir, opened)),
+            Err(fault) => {
+                drop(dir);
+                Err(fault)
+            }
+        }
     }
 }
 

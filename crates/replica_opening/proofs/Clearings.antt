@@ -13,9 +13,9 @@ use Rattle.segment_infos.specs.declared.infos.Infos.{Infos}
 use Rattle.segment_infos.specs.Infos.{IsInfosFile}
 use Rattle.segment_infos.specs.Files.{files_of_segment}
 use Rattle.segment_infos.proofs.FileLaws.{infos_files_one_to_one}
-use Rattle.file_deleter.specs.Holdings.{Holdings, count_of, times}
+use Rattle.file_deleter.specs.Holdings.{Holdings, count_of, times, IsWhole}
 use Rattle.file_deleter.specs.Moves.{LetsGo}
-use Rattle.file_deleter.proofs.NameLemmas.{among_times, among_is, times-append}
+use Rattle.file_deleter.proofs.NameLemmas.{among_times, not_among_times, among_is, times-append}
 use Rattle.commit_steps.specs.declared.states.Commit.{Commit}
 use Rattle.commit_steps.specs.declared.stage.Stage.{Stage}
 use Rattle.commit_steps.specs.Found.{ShowsCommit}
@@ -31,7 +31,7 @@ use Rattle.searcher_switch.specs.Searching.{searcher_names}
 use Rattle.searcher_switch.specs.Tickets.{ticket_names}
 use Rattle.replica_opening.specs.declared.opening.Taken.{Taken}
 use Rattle.replica_opening.specs.Opening.{FindsPoint, number_of_last}
-use Rattle.replica_opening.specs.Opened.{IsSettledAt, IsSettledOn, IsNodeOpened, IsTaken, IsHandedBack}
+use Rattle.replica_opening.specs.Opened.{IsSettledAt, IsSettledOn, IsNodeOpened, OpensNode, IsTaken, IsHandedBack}
 
 -- ---- a directory shows one point
 some_none : (x : Content) (bytes : List ℕ) → x ≡ Some bytes → x ≡ None → ⊥
@@ -72,6 +72,11 @@ pub times_take : (names : List Name) (i : ℕ) (q : Name) → times (take i name
 times_take names i q =
     let e : times names q ≡ times (take i names) q + times (drop i names) q = ap (λ (ns : List Name). times ns q) (sym (take-append-drop i names)) ∙ times-append (take i names) (drop i names) q in
     omega (arith, e)
+
+-- where nothing is due, the names that stand are those that are held
+names_held : (cells : Cells) (held : Holdings) (names : List Name) (q : Name) → IsWhole cells held → held.due ≡ [] → count_of held q ≡ times names q → is_some (cells q).now ≡ is_among names q
+names_held cells held names q whole none count =
+    whole.names q ∙ ap (λ b. nat_lt 0 (count_of held q) || b) (ap (λ (ns : List Name). is_among ns q) none) ∙ or-false (nat_lt 0 (count_of held q)) ∙ ap (nat_lt 0) count ∙ sym (among_is names q)
 
 module _ (before after : Cells) (t : Taken) (is : IsTaken before t) (new : Holdings) (gone : List Name) (within : (q : Name) → times gone q ≤ times t.listed q) (lets_go : LetsGo gone t.opened.files new before after) where
   -- what the node holds stays as it is
@@ -145,7 +150,7 @@ module _ (before after : Cells) (t : Taken) (is : IsTaken before t) (new : Holdi
     };
   }
 
-  pub opened_still : IsNodeOpened (reads_of after) (record { files = new; searchers = t.opened.searchers; commits = t.opened.commits; infos = t.opened.infos; segs = t.opened.segs; known = t.opened.known })
+  opened_still : IsNodeOpened (reads_of after) (record { files = new; searchers = t.opened.searchers; commits = t.opened.commits; infos = t.opened.infos; segs = t.opened.segs; known = t.opened.known })
   opened_still = record {
     finds = finds_still;
     none = is.opened.none;
@@ -160,7 +165,7 @@ module _ (before after : Cells) (t : Taken) (is : IsTaken before t) (new : Holdi
     tickets = is.opened.tickets;
   }
 
-  pub opened_node : ((q : Name) → times gone q ≡ times t.listed q) → IsSettledOn before → IsWholeNode after new (searcher_names t.opened.searchers) t.opened.commits
+  opened_node : ((q : Name) → times gone q ≡ times t.listed q) → IsSettledOn before → IsWholeNode after new (searcher_names t.opened.searchers) t.opened.commits
   opened_node all settled = record {
     counts = λ q. omega (arith, is.counts q, lets_go.counts q, all q);
     whole = lets_go.keeps.whole is.whole;
@@ -173,9 +178,24 @@ module _ (before after : Cells) (t : Taken) (is : IsTaken before t) (new : Holdi
   }
 
   -- the names that are left are those that the node holds
-  pub opened_names : ((q : Name) → times gone q ≡ times t.listed q) → new.due ≡ [] → (q : Name) → is_some (after q).now ≡ is_among (searcher_names t.opened.searchers ++ book_names t.opened.commits) q
+  opened_names : ((q : Name) → times gone q ≡ times t.listed q) → new.due ≡ [] → (q : Name) → is_some (after q).now ≡ is_among (searcher_names t.opened.searchers ++ book_names t.opened.commits) q
   opened_names all none q =
       let count : count_of new q ≡ times (searcher_names t.opened.searchers ++ book_names t.opened.commits) q =
       omega (arith, is.counts q, lets_go.counts q, all q, times-append (searcher_names t.opened.searchers) (book_names t.opened.commits) q) in
-      (lets_go.keeps.whole is.whole).names q ∙ ap (λ b. nat_lt 0 (count_of new q) || b) (ap (λ (ns : List Name). is_among ns q) none) ∙ or-false (nat_lt 0 (count_of new q))
-      ∙ ap (nat_lt 0) count ∙ sym (among_is (searcher_names t.opened.searchers ++ book_names t.opened.commits) q)
+      names_held after new (searcher_names t.opened.searchers ++ book_names t.opened.commits) q (lets_go.keeps.whole is.whole) none count
+
+  pub opened_cleared : (first : Cells) → before ≡ first → ((q : Name) → times gone q ≡ times t.listed q) → new.due ≡ []
+      → OpensNode first after (record { files = new; searchers = t.opened.searchers; commits = t.opened.commits; infos = t.opened.infos; segs = t.opened.segs; known = t.opened.known })
+  opened_cleared first same all none = record { opened = opened_still; node = λ settled. opened_node all (subst IsSettledOn (sym same) settled); names = opened_names all none }
+
+-- ---- a directory that has no file
+pub opened_empty : (cells : Cells) (t : Taken) → IsTaken cells t → ((q : Name) → (cells q).now ≡ None) → OpensNode cells cells t.opened
+opened_empty cells t is empty = record {
+  opened = is.opened;
+  node = λ settled. record { counts = λ q. omega (arith, is.counts q, unlisted q); whole = is.whole; sound = is.sound settled; plain = is.plain; free = is.free };
+  names = λ q. names_held cells t.opened.files (searcher_names t.opened.searchers ++ book_names t.opened.commits) q is.whole is.none
+      (omega (arith, is.counts q, unlisted q, times-append (searcher_names t.opened.searchers) (book_names t.opened.commits) q));
+}
+  where
+    unlisted : (q : Name) → times t.listed q ≡ 0
+    unlisted q = not_among_times t.listed q (is.listed q ∙ ap is_some (empty q))

@@ -1,5 +1,5 @@
 -- What an opened node has.
-use Rattle.std.specs.Prelude.{◌≡◌, ◌+◌, ℕ, true, is_some, List, [], Option, Some, None, IfSome, Contains}
+use Rattle.std.specs.Prelude.{◌≡◌, ◌+◌, ◌++◌, ℕ, true, is_some, List, [], Option, Some, None, IfSome, Contains}
 use Rattle.std.specs.List.{flat_map}
 use Rattle.disk_model.specs.Disk.{Name, Cells, Image, is_among, reads_of}
 use Rattle.file_deleter.specs.Holdings.{count_of, times, IsWhole}
@@ -9,7 +9,7 @@ use Rattle.segment_infos.specs.Files.{files_of_segment, AreFilesOf}
 use Rattle.commit_steps.specs.Flights.{IsCommit}
 use Rattle.commit_steps.specs.Commits.{HasFilesOf, ImagesShowNothing, ImagesShow}
 use Rattle.commit_steps.specs.Book.{book_names, IsBookSound}
-use Rattle.searcher_switch.specs.Node.{HasNoPending, AreFree}
+use Rattle.searcher_switch.specs.Node.{HasNoPending, AreFree, IsWholeNode}
 use Rattle.searcher_switch.specs.Searching.{searcher_names}
 use Rattle.replica_opening.specs.declared.opening.FilesAndCommits.{FilesAndCommits}
 use Rattle.replica_opening.specs.declared.opening.Found.{Found}
@@ -57,6 +57,12 @@ pub record IsNodeOpened (reads : Image) (o : Opened) : Type 0 where
   pub segs : o.segs ≡ o.searchers.point.readers
   pub known : KnowsFiles reads (flat_map files_of_segment o.infos.segs) o.known
   pub tickets : o.searchers.tickets ≡ []
+
+-- a node was opened on a directory: what it has, that it is whole where the directory was settled, and that no other file is left there
+pub record OpensNode (before after : Cells) (o : Opened) : Type 0 where
+  pub opened : IsNodeOpened (reads_of after) o
+  pub node : IsSettledOn before → IsWholeNode after o.files (searcher_names o.searchers) o.commits
+  pub names : (q : Name) → is_some (after q).now ≡ is_among (searcher_names o.searchers ++ book_names o.commits) q
 
 -- each file of the directory is counted, those of the point and of the commit that was found once more, and nothing is in flight
 pub record IsCounted (cells : Cells) (f : Found) (listed : List Name) (t : FilesAndCommits) : Type 0 where

@@ -58,10 +58,8 @@ impl Known {
         ensures ok { OnOk result (LearnsMeta name meta self.old self.new) }
         ensures err { OnErr result ((q : Name) → meta_in self.new q ≡ meta_in self.old q) }
     {
-        match self.metas.insert(name, meta) {
-            Ok(_) => Ok(()),
-            Err(_) => Err(AllocError),
-        }
+        self.metas.insert(name, meta)?;
+        Ok(())
     }
 
     /// Forgets what is not held any more. Takes no memory.

@@ -12,7 +12,7 @@ mod sharing;
 pub use commit_steps::CommitBook;
 pub use fault::StartFault;
 pub use known::Known;
-pub use opening::{Opened, open};
+pub use opening::{Opened, open, open_empty};
 pub use reading::{LoadFault, SegmentRead, read_segment};
 pub use searcher_switch::Searchers;
 pub use seg_reader::Segment;

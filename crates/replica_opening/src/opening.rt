@@ -1,6 +1,6 @@
 //! Opening a node on a directory.
 
-ghost use Rattle.std.specs.Prelude.{◌≡◌, ◌≤◌, ◌<◌, ◌+◌, ◌++◌, ℕ, List, [], Some, None, IfSome, Contains, IfOk, IfErr, OnOk, OnErr, IsErrOf, MatchResult, is_some};
+ghost use Rattle.std.specs.Prelude.{◌≡◌, ◌≤◌, ◌<◌, ℕ, List, [], Some, None, IfSome, Contains, IfOk, IfErr, OnOk, OnErr, IsErrOf, MatchResult, is_some};
 ghost use Rattle.std.specs.List.{All, flat_map};
 ghost use Rattle.nrt_base.specs.Causes.{Rose};
 ghost use Rattle.disk_model.specs.Disk.{is_among, reads_of};
@@ -14,13 +14,11 @@ ghost use Rattle.seg_reader.specs.Stands.{IsSegmentIn};
 ghost use Rattle.commit_steps.specs.Flights.{IsCommit};
 ghost use Rattle.commit_steps.specs.Book.{book_names, IsBookSound};
 ghost use Rattle.commit_steps.specs.Recovery.{IsWholeCommit};
-ghost use Rattle.searcher_switch.specs.Node.{IsWholeNode};
-ghost use Rattle.searcher_switch.specs.Searching.{searcher_names};
 ghost use Rattle.replica_opening.specs.declared.fault.StartFault.{StartFault};
 ghost use Rattle.replica_opening.specs.Readers.{AreReaders, IsRefusedIn, IsFirstRefusedSegment};
 ghost use Rattle.replica_opening.specs.Opening.{IsReadNext, IsRefusedNext, IsRefusedAmong, IsOfFirstRefused, IsRecovered, IsRecoveredBefore, CanOpen, RecoversOpen, start_fault_of, opening_infos, FindsPoint, number_of_last, IsDiskFault, IsStartCutOff, IsStartRefusal, IsCutOffOr, IsStartFaultOf};
 ghost use Rattle.replica_opening.specs.Known.{KnowsFiles, LearnsFiles};
-ghost use Rattle.replica_opening.specs.Opened.{IsOpeningPoint, IsFoundPoint, IsSettledOn, IsNodeOpened, IsCounted, IsTaken, IsHandedBack};
+ghost use Rattle.replica_opening.specs.Opened.{IsOpeningPoint, IsFoundPoint, IsSettledOn, OpensNode, IsCounted, IsTaken, IsHandedBack};
 
 use crate::clearing::clear;
 use crate::fault::StartFault;
@@ -346,6 +344,33 @@ fn searchers_of(alloc: Global, found: &Found) -> Result<Searchers<Segment>, NoMe
     }
 }
 
+// What is held of a point that was found, and of the names that its directory has, and what searches it.
+fn held_of<D: Dir>(
+    alloc: Global,
+    found: &Found,
+    listed: &[FileName],
+    dir: &D,
+) -> Result<(FilesAndCommits, Searchers<Segment>), NoMemory>
+    requires found { IsFoundPoint (reads_of (D.cells dir.now)) found.now }
+    requires listed { (q : List ℕ) → is_among listed.now q ≡ is_some (D.cells dir.now q).now }
+    ensures counted { IfOk result (λ held. IsCounted (D.cells dir.now) found.now listed.now held.0) }
+    ensures point { IfOk result (λ held. held.1.point ≡ record {
+      version = found.now.infos.version;
+      names = found.now.names;
+      readers = found.now.read.segs;
+    }) }
+    ensures tickets { IfOk result (λ held. held.1.tickets ≡ []) }
+{
+    let counted = count_found(alloc, found, listed, dir)?;
+    match searchers_of(alloc, found) {
+        Ok(searchers) => Ok((counted, searchers)),
+        Err(fault) => {
+            drop(counted);
+            Err(fault)
+        }
+    }
+}
+
 // Holds all files of a directory, and those of the point that was found, and searches that.
 fn hold_found<D: Dir>(
     alloc: Global,
@@ -357,15 +382,22 @@ fn hold_found<D: Dir>(
     requires listed { (q : List ℕ) → is_among listed q ≡ is_some (D.cells dir.now q).now }
     ensures { IfOk result (IsTaken (D.cells dir.now)) }
 {
-    let counted = count_found(alloc, &found, listed.as_slice(), dir)?;
-    let searchers = searchers_of(alloc, &found)?;
+    let (counted, searchers) = match held_of(alloc, &found, listed.as_slice(), dir) {
+        Ok(held) => held,
+        Err(fault) => {
+            drop(listed);
+            drop(found);
+            return Err(fault);
+        }
+    };
     let FilesAndCommits { files, commits } = counted;
     let Found {
         number: _,
         infos,
-        names: _,
+        names,
         read: PointRead { segs, known },
     } = found;
+    drop(names);
     Ok(Taken {
         opened: Opened {
             files,
@@ -382,14 +414,10 @@ fn hold_found<D: Dir>(
 /// Opens a node on a directory. It finds the point that the directory shows, holds its files, and removes every other file,
 /// in ascending order, ending at the first removal that fails.
 pub fn open<D: Dir>(alloc: Global, dir: &mut D) -> Result<Opened, StartFault>
-    // What is answered, and that no other file is left.
-    ensures opened { IfOk result (IsNodeOpened (reads_of (D.cells dir.new))) }
+    // What is answered.
+    ensures opened { IfOk result (OpensNode (D.cells dir.old) (D.cells dir.new)) }
     ensures found { IfOk result (λ o.
         FindsPoint (reads_of (D.cells dir.old)) (number_of_last o.commits.last) o.infos) }
-    ensures node { IsSettledOn (D.cells dir.old) → IfOk result (λ o.
-        IsWholeNode (D.cells dir.new) o.files (searcher_names o.searchers) o.commits) }
-    ensures names { IfOk result (λ o. (q : List ℕ) → is_some (D.cells dir.new q).now
-        ≡ is_among (searcher_names o.searchers ++ book_names o.commits) q) }
 
     // Each refusal, in both directions.
     ensures fault { IfErr result (IsStartFaultOf (reads_of (D.cells dir.old))) }
@@ -411,14 +439,34 @@ pub fn open<D: Dir>(alloc: Global, dir: &mut D) -> Result<Opened, StartFault>
     };
     let listed = match listed(dir) {
         Ok(listed) => listed,
-        Err(fault) => return Err(fault),
+        Err(fault) => {
+            drop(found);
+            return Err(fault);
+        }
     };
-    let mut taken = match hold_found(alloc, found, listed, dir) {
-        Ok(taken) => taken,
-        Err(_) => return Err(StartFault::Memory),
+    let Ok(taken) = hold_found(alloc, found, listed, dir) else {
+        return Err(StartFault::Memory);
     };
-    match clear(taken.listed.as_slice(), &mut taken.opened.files, dir) {
-        Ok(()) => Ok(taken.opened),
-        Err(fault) => Err(fault),
+    let Taken { mut opened, listed } = taken;
+    match clear(listed.as_slice(), &mut opened.files, dir) {
+        Ok(()) => {
+            drop(listed);
+            Ok(opened)
+        }
+        Err(fault) => {
+            drop(listed);
+            drop(opened);
+            Err(fault)
+        }
     }
+}
+
+/// Opens a node on a directory that has no file: it stands at the opening point. It makes no call of the disk.
+pub fn open_empty<D: Dir>(alloc: Global, dir: &D) -> Result<Opened, NoMemory>
+    requires { (q : List ℕ) → (D.cells dir.now q).now ≡ None }
+    ensures { IfOk result (OpensNode (D.cells dir.now) (D.cells dir.now)) }
+{
+    let found = opening_point(alloc);
+    let taken = hold_found(alloc, found, List::new(alloc), dir)?;
+    Ok(taken.opened)
 }

@@ -18,7 +18,7 @@ use indexmap::IndexMap;
 use nrt_base::{NoMemory, Share};
 use seg_reader::Segment;
 use segment_infos::SegRecord;
-use std::alloc::{AllocError, Global};
+use std::alloc::Global;
 
 /// Where the records of segments stand, by the numbers of the segments.
 type Places = IndexMap<u64, usize>;
@@ -27,10 +27,8 @@ type Places = IndexMap<u64, usize>;
 fn note_place(places: &mut Places, seg: u64, at: usize) -> Result<(), NoMemory>
     ensures { OnOk result (NotesPlace seg at places.old.entries places.new.entries) }
 {
-    match places.insert(seg, at) {
-        Ok(_) => Ok(()),
-        Err(_) => Err(AllocError),
-    }
+    places.insert(seg, at)?;
+    Ok(())
 }
 
 // Where each of the records stands.

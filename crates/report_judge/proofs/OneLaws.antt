@@ -20,7 +20,7 @@ use Rattle.script_serving.specs.Form.{IsInForm}
 use Rattle.script_serving.specs.Lines.{lines_of, all_answered}
 use Rattle.script_serving.specs.Replays.{due}
 use Rattle.script_serving.specs.Serves.{ServesLanes, ServesPhases}
-use Rattle.serving_laws.proofs.ReplayLemmas.{serves_back, turned}
+use Rattle.serving_rules.proofs.ReplayLemmas.{serves_back, turned}
 use Rattle.report_judge.specs.declared.judgement.Judgement.{Judgement}
 use Rattle.report_judge.specs.declared.judgement.Judgement.TheVariants.{Legal, Broken, Unserved, Unread, Unanswered}
 use Rattle.report_judge.specs.Judgements.{AllNarrow, FitsNext, BeginsWithEntry, GoesWellTo, IsLegalReport, IsUnread, IsUnserved, IsBroken, IsUnanswered, IsJudgement, first_unanswered}

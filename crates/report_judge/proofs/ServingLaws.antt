@@ -27,7 +27,7 @@ use Rattle.script_serving.specs.Form.{IsInForm}
 use Rattle.script_serving.specs.Lines.{lines_of, lines_of_lane, command_at, earlier_answered, earlier_phases_answered}
 use Rattle.script_serving.specs.Replays.{due}
 use Rattle.script_serving.specs.Serves.{Begins, First, Suits, SuitsFault, FitsTurn, FitsReplay, Fits, is_merge_fault}
-use Rattle.serving_laws.proofs.Unprinted.{OpOf, QueryOf, MostOf, OfCommand, Unprinted, fits_unprinted, one_place}
+use Rattle.serving_rules.proofs.Unprinted.{OpOf, QueryOf, MostOf, OfCommand, Unprinted, fits_unprinted, one_place}
 use Rattle.report_judge.specs.Judgements.{FitsNext}
 use Rattle.report_judge.specs.Places.{line_numbered, place_told, command_told}
 use Rattle.known_past.specs.Lines.{is_fault}

@@ -27,7 +27,7 @@ use Rattle.report_judge.specs.Readings.{IsEntryOf, IsEntryRead}
 use Rattle.report_judge.specs.declared.judging.WalkEnd.{WalkEnd}
 use Rattle.report_judge.specs.declared.judging.WalkEnd.TheVariants.{Whole, Short, Unserved, Unread}
 use Rattle.report_judge.specs.Walks.{ServesTo, NoneFits, IsStop, IsWalk}
-use Rattle.serving_laws.proofs.ReplayLemmas.{serves_back}
+use Rattle.serving_rules.proofs.ReplayLemmas.{serves_back}
 use Rattle.report_judge.proofs.ServingLaws.{one_fitting, told_fitting}
 
 -- a text that begins with the line of an entry has this as its first line

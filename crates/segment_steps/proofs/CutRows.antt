@@ -5,6 +5,7 @@ use Rattle.std.specs.List.{list_any}
 use Rattle.std.specs.Str.{bytes_eq}
 use Rattle.std.specs.BTreeMap.{is_at}
 use Rattle.std.specs.BTreeSet.{contains, BTreeSet, btree_set_len}
+use Rattle.std.proofs.Math.Bool.{or_assoc, or_comm}
 use Rattle.std.proofs.lemmas.List.{append-nil, append_assoc, reverse-append}
 use Rattle.std.proofs.lemmas.Map.Text.{is_eq-slice_cmp}
 use Rattle.nrt_base.specs.declared.doc.Doc.{Doc}
@@ -34,22 +35,13 @@ next_op ops at op lt item =
 
 -- ---- a key or a word more
 
-or_moved : (a b c : Bool) → ((a || b) || c) ≡ (a || (b || c))
-or_moved true b c = refl
-or_moved false b c = refl
-
-or_turned : (a b c : Bool) → (a || (b || c)) ≡ (b || (a || c))
-or_turned true true c = refl
-or_turned true false c = refl
-or_turned false b c = refl
-
 pub key_more : (old new : Gone) (key : List ℕ) → ((q : List ℕ) → contains key_cmp new.keys q ≡ (bytes_eq key q || contains key_cmp old.keys q)) → new.words ≡ old.words
     → (d : Doc) → is_gone new d ≡ (bytes_eq key d.key || is_gone old d)
 key_more old new key more same d =
     let words : List (List ℕ) = words_of d.text in
     ap (λ (b : Bool). b || list_any (contains key_cmp new.words) words) (more d.key)
     ∙ ap (λ (s : BTreeSet (List ℕ)). (bytes_eq key d.key || contains key_cmp old.keys d.key) || list_any (contains key_cmp s) words) same
-    ∙ or_moved (bytes_eq key d.key) (contains key_cmp old.keys d.key) (list_any (contains key_cmp old.words) words)
+    ∙ or_assoc (bytes_eq key d.key) (contains key_cmp old.keys d.key) (list_any (contains key_cmp old.words) words)
 
 any_more : (p q r : List ℕ → Bool) (words : List (List ℕ)) → ((w : List ℕ) → p w ≡ (q w || r w)) → list_any p words ≡ (list_any q words || list_any r words)
 any_more p q r [] same = refl
@@ -72,11 +64,14 @@ pub word_more : (old new : Gone) (word : List ℕ) → ((q : List ℕ) → conta
     → (d : Doc) → is_gone new d ≡ (has_word word (words_of d.text) || is_gone old d)
 word_more old new word more same d =
     let words : List (List ℕ) = words_of d.text in
+    let named : Bool = contains key_cmp old.keys d.key in
+    let has : Bool = has_word word words in
+    let others : Bool = list_any (contains key_cmp old.words) words in
     ap (λ (b : Bool). contains key_cmp new.keys d.key || b)
     (any_more (contains key_cmp new.words) (λ (w : List ℕ). bytes_eq word w) (contains key_cmp old.words) words more
     ∙ ap (λ (b : Bool). b || list_any (contains key_cmp old.words) words) (same_any (λ (w : List ℕ). bytes_eq word w) (λ (w : List ℕ). bytes_eq w word) words (λ w. one_way word w)))
     ∙ ap (λ (s : BTreeSet (List ℕ)). contains key_cmp s d.key || (has_word word words || list_any (contains key_cmp old.words) words)) same
-    ∙ or_turned (contains key_cmp old.keys d.key) (has_word word words) (list_any (contains key_cmp old.words) words)
+    ∙ sym (or_assoc named has others) ∙ ap (λ (b : Bool). b || others) (or_comm named has) ∙ or_assoc has named others
 
 -- ---- one operation before those that were gone through
 

@@ -7,6 +7,8 @@ mod files;
 #[cfg(test)]
 mod images;
 #[cfg(test)]
+mod links;
+#[cfg(test)]
 mod messages;
 #[cfg(test)]
 mod readers;

@@ -1,1 +1,3 @@
 mod ChunkLaws
+mod CopyLaws
+mod ShortInfos

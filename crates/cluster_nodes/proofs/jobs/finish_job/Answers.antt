@@ -38,3 +38,6 @@ pub returns-in_ok-is_dir_failed-in-Err : goal.returns-in_ok-is_dir_failed-in-Err
 returns-in_ok-is_dir_failed-in-Err g c = stops_finishing g.D.Dir.cells c.args.primary.now c.give_back-in-Err.new.self c.args.replica.now c.finish.new.self c.in_ok-state.state c.in-Some.job.now (runs_here c.args.replica.now.job c.in-Some.job.now c.in-Some.ensures) (c.in_ok-state.ensures ∙ c.want.ensures)
     (alters_by g.D.Dir.cells c.args.primary.now c.give_back-in-Err.new.self c.give_back-in-Err.ensures.stays c.give_back-in-Err.ensures.no_new c.give_back-in-Err.ensures.appears c.give_back-in-Err.ensures.others (λ w. c.give_back-in-Err.ensures.whole)) c.give_back-in-Err.ensures.states
     c.in-Err.ensures.others c.in-Err.ensures.whole c.in-Err.ensures.standing c.in-Err.ensures.sourced c.in-Err.ensures.appears c.in-Err.ensures.err (c.in-Err.ensures.stops (dir_failed (Err c.in-Err.fault) c.in-Err.fault refl c.in_ok-is_dir_failed-in-Err.ensures))
+
+pub is_dir_failed-requires : goal.is_dir_failed-requires
+is_dir_failed-requires g c = c.in-Err.ensures.fault

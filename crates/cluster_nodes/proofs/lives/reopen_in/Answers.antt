@@ -1,9 +1,9 @@
 use Rattle.std.proofs.Common.{refl, sym, subst}
 use Rattle.nrt_base.specs.Causes.{Rose}
-use Rattle.cluster_nodes.specs.Lives.{OpensOn}
 use Rattle.disk_model.specs.Disk.{reads_of}
 use Rattle.replica_opening.specs.Opening.{CanOpen}
 use Rattle.replica_opening.specs.Opened.{IsSettledOn, IsHandedBack}
+use Rattle.replica_node.specs.Starting.{OpensOn}
 use Rattle.cluster_nodes.proofs.Taking.{moved_one}
 use Rattle.cluster_nodes.proofs.lives.reopen_in.Goals as goal
 
@@ -18,15 +18,7 @@ returns-in-Ok g c = record {
   place = c.take-node.result;
   there = c.take-node.ensures.place;
   replica = c.in-Ok.replica;
-  opens = subst (λ d. OpensOn g.D.Dir.cells d c.in-Ok.replica) c.dir_in-dir.ensures (record {
-    whole = c.in-Ok.ensures.whole;
-    point = c.in-Ok.ensures.point;
-    documents = c.in-Ok.ensures.documents;
-    sourced = c.in-Ok.ensures.sourced;
-    fresh = c.in-Ok.ensures.fresh;
-    back = c.in-Ok.ensures.back;
-    only = c.in-Ok.ensures.only;
-  });
+  opens = subst (λ d. OpensOn g.D.Dir.cells d c.in-Ok.replica) c.dir_in-dir.ensures c.in-Ok.ensures.opened;
   version = sym c.version-version.ensures.version;
   moves = moved_one _ _ _ c.args.n.0 _ c.take-node.ensures.count c.take-node.ensures.places c.put.ensures.count c.put.ensures.places;
 }

@@ -76,3 +76,6 @@ returns-in_ok-stop_job_in-in-Err-clause-went g c =
     c.in-Err.ensures.err c.in-Err.ensures.whole c.in-Err.ensures.standing c.in-Err.ensures.sourced is.number_is (omega (arith, c.number-number.type_inv))
     (subst (λ (j : Job). 0 < times j.missing c.args.part.name) is.here.copy (among_times c.in-Some.job.now.missing c.args.part.name (sym c.if-not-lacks.ensures.is)))
     c.in-Err.ensures.appears stops) c.in_ok-stop_job_in-in-Err.ensures.stopped
+
+pub is_dir_failed-requires : goal.is_dir_failed-requires
+is_dir_failed-requires g c = c.in-Err.ensures.fault

@@ -4,7 +4,7 @@ use Rattle.disk_memory.specs.contracts.memory.MemDir as mem
 use Rattle.disk_memory.specs.contracts.memory.MemDirFaultDir.TheImpl as fault
 use Rattle.disk_memory.specs.contracts.memory.MemDirDir.TheImpl as dir
 use Rattle.cluster_state.specs.contracts.cluster.ClusterState as state
-use Rattle.lane_sections.proofs.StateParts.{state_send, site_send}
+use Rattle.cluster_site.proofs.StateParts.{state_send, site_send}
 use Rattle.cluster_run.proofs.Scripts.{left_serves, left_tells}
 use Rattle.cluster_run.proofs.script.run_script.Goals as goal
 

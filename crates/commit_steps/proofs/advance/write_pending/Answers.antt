@@ -1,8 +1,14 @@
-use Rattle.std.proofs.Common.{◌∙◌, ap, ◌+◌, ◌∷◌, []}
+use Rattle.std.proofs.Common.{◌≡◌, ◌∙◌, ap, sym, subst, false, ◌+◌, ◌∷◌, []}
 use Rattle.disk_model.specs.Disk.{Name}
-use Rattle.file_deleter.specs.Holdings.{count_of, times}
+use Rattle.file_deleter.specs.Holdings.{count_of, is_due, times}
 use Rattle.commit_steps.proofs.Advancing.{synced_goes, synced_stops}
 use Rattle.commit_steps.proofs.advance.write_pending.Goals as goal
+
+pub written-requires-clause-free : goal.written-requires-clause-free
+written-requires-clause-free g c = subst (λ (n : Name). count_of c.args.files.now n ≡ 0) (sym c.pending_name-name.ensures.name) c.requires.stands.pending.unheld
+
+pub written-requires-clause-clear : goal.written-requires-clause-clear
+written-requires-clause-clear g c = subst (λ (n : Name). is_due c.args.files.now n ≡ false) (sym c.pending_name-name.ensures.name) c.requires.stands.pending.clear
 
 pub returns-in-Ok-clause-advances : goal.returns-in-Ok-clause-advances
 returns-in-Ok-clause-advances g c =

@@ -4,7 +4,7 @@ use Rattle.cluster_nodes.specs.declared.tasks.CopyTask.{CopyTask}
 use Rattle.cluster_state.specs.declared.turn.Turn.{Turn}
 use Rattle.cluster_state.specs.declared.turn.Turn.TheVariants.{Work, Done, Busy}
 use Rattle.cluster_state.specs.CopyCalls.{SettleGoesOn}
-use Rattle.lane_sections.specs.Given.{IsRepliedAtDone}
+use Rattle.cluster_site.specs.Given.{IsRepliedAtDone}
 use Rattle.lane_copies.proofs.JobCalls.{settle_copied, begins_shows, waits_shows, settle_held, closed_settle}
 use Rattle.lane_copies.proofs.calls.next_job.Goals as goal
 

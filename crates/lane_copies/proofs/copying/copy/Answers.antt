@@ -6,9 +6,9 @@ use Rattle.cluster_state.specs.declared.turn.Turn.TheVariants.{Work, Done, Busy}
 use Rattle.history_book.specs.Log.{Log}
 use Rattle.cluster_state.specs.CopyCalls.{IsBeingCopied}
 use Rattle.lane_threads.specs.Seats.{log_seen}
-use Rattle.lane_sections.specs.Flights.{WaitsWhere}
-use Rattle.lane_sections.specs.Turns.{IsUnbegunIn, TurnsLine}
-use Rattle.lane_sections.proofs.Sections.{takes_first, takes_then, takes_ends, on_takes_ends}
+use Rattle.cluster_site.specs.Flights.{WaitsWhere}
+use Rattle.cluster_site.specs.Turns.{IsUnbegunIn, TurnsLine}
+use Rattle.cluster_site.proofs.Sections.{takes_first, takes_then, takes_ends, on_takes_ends}
 use Rattle.lane_copies.specs.Jobs.{BeginsCopy}
 use Rattle.lane_copies.proofs.JobCalls.{copied_waited}
 use Rattle.lane_copies.proofs.Steps.{on_copy_ended}

@@ -4,8 +4,8 @@ use Rattle.cluster_state.specs.declared.turn.Turn.{Turn}
 use Rattle.history_book.specs.Log.{Log}
 use Rattle.cluster_state.specs.CopyCalls.{IsBeingCopied}
 use Rattle.lane_threads.specs.Seats.{log_seen}
-use Rattle.lane_sections.specs.Turns.{IsUnbegunIn}
-use Rattle.lane_sections.proofs.Sections.{found_entered, if_ok_two, if_ok_three, call_extends, on_call_turns, on_waits}
+use Rattle.cluster_site.specs.Turns.{IsUnbegunIn}
+use Rattle.cluster_site.proofs.Sections.{found_entered, if_ok_two, if_ok_three, call_extends, on_call_turns, on_waits}
 use Rattle.lane_copies.specs.Jobs.{BeginsCopy}
 use Rattle.lane_copies.proofs.JobCalls.{copy_shows, copy_waits}
 use Rattle.lane_copies.proofs.copying.start.Goals as goal

@@ -2,8 +2,8 @@ use Rattle.std.proofs.Common.{Some, subst}
 use Rattle.script_serving.specs.declared.script.LineCommand.TheVariants.{Drain}
 use Rattle.cluster_state.specs.declared.turn.Turn.{Turn}
 use Rattle.cluster_state.specs.declared.turn.Turn.TheVariants.{Work, Done, Busy}
-use Rattle.lane_sections.specs.Turns.{IsUnbegunIn, NeverWaits, TurnsLine}
-use Rattle.lane_sections.proofs.Sections.{takes_first, takes_then, takes_ends}
+use Rattle.cluster_site.specs.Turns.{IsUnbegunIn, NeverWaits, TurnsLine}
+use Rattle.cluster_site.proofs.Sections.{takes_first, takes_then, takes_ends}
 use Rattle.lane_copies.proofs.Drains.{works_line}
 use Rattle.lane_copies.proofs.draining.drain.Goals as goal
 

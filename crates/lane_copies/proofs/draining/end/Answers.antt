@@ -1,6 +1,6 @@
 use Rattle.script_serving.specs.declared.script.LineCommand.TheVariants.{Drain}
-use Rattle.lane_sections.specs.Turns.{IsUnbegunIn, NeverWaits}
-use Rattle.lane_sections.proofs.Sections.{found_entered, log_extends, on_call_turns}
+use Rattle.cluster_site.specs.Turns.{IsUnbegunIn, NeverWaits}
+use Rattle.cluster_site.proofs.Sections.{found_entered, log_extends, on_call_turns}
 use Rattle.lane_copies.proofs.draining.end.Goals as goal
 
 pub end_drain-answer-requires-clause-fresh : goal.end_drain-answer-requires-clause-fresh

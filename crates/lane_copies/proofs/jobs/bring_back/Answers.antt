@@ -4,10 +4,10 @@ use Rattle.history_rules.specs.declared.entry.Event.{Event}
 use Rattle.history_rules.specs.Lines.{start_entry}
 use Rattle.history_book.specs.Log.{printed}
 use Rattle.history_book.specs.Turns.{AreInTurn}
-use Rattle.lane_sections.specs.Given.{SiteRun}
+use Rattle.cluster_site.specs.Sites.{SiteRun}
 use Rattle.cluster_state.specs.CopyCalls.{CopiesFor}
 use Rattle.lane_threads.specs.Seats.{log_seen}
-use Rattle.lane_sections.proofs.Sections.{found_entered, found_legal, found_nodes, log_extends}
+use Rattle.cluster_site.proofs.Sections.{found_entered, found_legal, found_nodes, log_extends}
 use Rattle.lane_copies.specs.Jobs.{IsCopyingBy}
 use Rattle.lane_copies.proofs.Stays.{file_stays}
 use Rattle.lane_copies.proofs.Steps.{some_copies, on_turns}

@@ -5,7 +5,7 @@ use Rattle.history_rules.specs.Lines.{start_entry}
 use Rattle.history_book.specs.Log.{printed}
 use Rattle.cluster_state.specs.CopyCalls.{CopiesFor}
 use Rattle.lane_threads.specs.Seats.{log_seen}
-use Rattle.lane_sections.proofs.Sections.{found_entered, found_legal, found_nodes, log_extends}
+use Rattle.cluster_site.proofs.Sections.{found_entered, found_legal, found_nodes, log_extends}
 use Rattle.lane_copies.specs.Jobs.{HasFileOut}
 use Rattle.lane_copies.proofs.Stays.{copying_stays}
 use Rattle.lane_copies.proofs.Steps.{some_copies, on_turns}

@@ -1,6 +1,6 @@
 use Rattle.lane_threads.specs.Seats.{log_seen}
 use Rattle.lane_copies.proofs.Claims.{source_stays}
-use Rattle.lane_sections.proofs.Sections.{found_entered}
+use Rattle.cluster_site.proofs.Sections.{found_entered}
 use Rattle.lane_copies.proofs.Works.{task_extends, on_works}
 use Rattle.lane_copies.proofs.precopying.bring_back.Goals as goal
 

@@ -3,8 +3,8 @@ use Rattle.cluster_nodes.specs.declared.tasks.FileTask.{FileTask}
 use Rattle.cluster_state.specs.declared.turn.Turn.{Turn}
 use Rattle.cluster_state.specs.declared.turn.Turn.TheVariants.{Work, Done, Busy}
 use Rattle.lane_threads.specs.Seats.{log_seen}
-use Rattle.lane_sections.specs.Flights.{HasJobAt, WaitsWhere}
-use Rattle.lane_sections.proofs.Sections.{job_waited}
+use Rattle.cluster_site.specs.Flights.{HasJobAt, WaitsWhere}
+use Rattle.cluster_site.proofs.Sections.{job_waited}
 use Rattle.lane_copies.specs.Taken.{HandsOn}
 use Rattle.lane_copies.proofs.Works.{works_first, works_then}
 use Rattle.lane_copies.proofs.precopying.copy_over.Goals as goal

@@ -1,8 +1,8 @@
 use Rattle.std.proofs.lemmas.Result.{IfOk-weaker}
 use Rattle.lane_threads.specs.Seats.{log_seen}
 use Rattle.cluster_merges.specs.TaskCalls.{PrecopyTurns}
-use Rattle.lane_sections.specs.Flights.{HasJobAt, WaitsWhere}
-use Rattle.lane_sections.proofs.Sections.{found_entered, on_waits}
+use Rattle.cluster_site.specs.Flights.{HasJobAt, WaitsWhere}
+use Rattle.cluster_site.proofs.Sections.{found_entered, on_waits}
 use Rattle.lane_copies.proofs.Works.{task_extends, on_hands, precopy_waits}
 use Rattle.lane_copies.proofs.precopying.hand_out.Goals as goal
 

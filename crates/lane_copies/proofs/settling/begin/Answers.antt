@@ -1,7 +1,7 @@
 use Rattle.std.proofs.Common.{◌∙◌}
 use Rattle.script_serving.specs.declared.script.LineCommand.TheVariants.{Settle}
 use Rattle.lane_threads.specs.Seats.{log_seen}
-use Rattle.lane_sections.proofs.Sections.{found_entered, found_legal, found_nodes, log_extends, on_call_turns, on_waits}
+use Rattle.cluster_site.proofs.Sections.{found_entered, found_legal, found_nodes, log_extends, on_call_turns, on_waits}
 use Rattle.lane_copies.specs.Jobs.{IsCopiedSomewhere, BeginsNextJob, IsSettlingOn}
 use Rattle.lane_copies.proofs.JobCalls.{on_next_job}
 use Rattle.lane_copies.proofs.Stays.{still_settling_stays}

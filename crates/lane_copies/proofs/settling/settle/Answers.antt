@@ -3,8 +3,8 @@ use Rattle.script_serving.specs.declared.script.LineCommand.TheVariants.{Settle}
 use Rattle.cluster_nodes.specs.declared.tasks.SettleTask.{SettleTask}
 use Rattle.cluster_state.specs.declared.turn.Turn.{Turn}
 use Rattle.cluster_state.specs.declared.turn.Turn.TheVariants.{Work, Busy}
-use Rattle.lane_sections.specs.Turns.{NeverWaits, TurnsLine}
-use Rattle.lane_sections.proofs.Sections.{on_takes_ends}
+use Rattle.cluster_site.specs.Turns.{NeverWaits, TurnsLine}
+use Rattle.cluster_site.proofs.Sections.{on_takes_ends}
 use Rattle.lane_copies.specs.Jobs.{IsSettlingOn}
 use Rattle.lane_copies.proofs.settling.settle.Goals as goal
 

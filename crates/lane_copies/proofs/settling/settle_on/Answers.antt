@@ -4,9 +4,9 @@ use Rattle.cluster_nodes.specs.declared.tasks.CopyTask.{CopyTask}
 use Rattle.cluster_state.specs.declared.turn.Turn.{Turn}
 use Rattle.cluster_state.specs.declared.turn.Turn.TheVariants.{Work, Done, Busy}
 use Rattle.lane_threads.specs.Seats.{log_seen}
-use Rattle.lane_sections.specs.Flights.{WaitsWhere}
-use Rattle.lane_sections.specs.Turns.{TurnsLine}
-use Rattle.lane_sections.proofs.Sections.{takes_none, takes_then, takes_ends}
+use Rattle.cluster_site.specs.Flights.{WaitsWhere}
+use Rattle.cluster_site.specs.Turns.{TurnsLine}
+use Rattle.cluster_site.proofs.Sections.{takes_none, takes_then, takes_ends}
 use Rattle.lane_copies.specs.Jobs.{IsCopiedSomewhere, BeginsNextJob, IsSettlingOn}
 use Rattle.lane_copies.proofs.JobCalls.{copied_waited}
 use Rattle.lane_copies.proofs.Steps.{IsSettlingYet, settling_yet, settle_waits, settle_goes_on}

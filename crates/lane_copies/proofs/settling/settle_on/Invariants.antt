@@ -1,5 +1,5 @@
 use Rattle.script_serving.specs.declared.script.LineCommand.TheVariants.{Settle}
-use Rattle.lane_sections.specs.Turns.{TakesLineTo}
+use Rattle.cluster_site.specs.Turns.{TakesLineTo}
 use Rattle.lane_copies.proofs.Steps.{IsSettlingYet}
 use Rattle.lane_copies.proofs.settling.settle_on.Given as goal
 

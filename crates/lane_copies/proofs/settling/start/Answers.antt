@@ -1,6 +1,6 @@
 use Rattle.script_serving.specs.declared.script.LineCommand.TheVariants.{Settle}
-use Rattle.lane_sections.specs.Turns.{NeverWaits}
-use Rattle.lane_sections.proofs.Sections.{found_entered, found_nodes, call_extends, on_call_turns}
+use Rattle.cluster_site.specs.Turns.{NeverWaits}
+use Rattle.cluster_site.proofs.Sections.{found_entered, found_nodes, call_extends, on_call_turns}
 use Rattle.lane_copies.specs.Jobs.{IsSettlingOn}
 use Rattle.lane_copies.proofs.JobCalls.{on_settle_starts}
 use Rattle.lane_copies.proofs.settling.start.Goals as goal

@@ -1,7 +1,7 @@
 use Rattle.std.proofs.Common.{subst}
 use Rattle.lane_threads.specs.Seats.{log_seen}
-use Rattle.lane_sections.specs.Flights.{HasPublish, WaitsWhere}
-use Rattle.lane_sections.proofs.Sections.{publish_waited}
+use Rattle.cluster_site.specs.Flights.{HasPublish, WaitsWhere}
+use Rattle.cluster_site.proofs.Sections.{publish_waited}
 use Rattle.lane_copies.proofs.Works.{works_first, works_then}
 use Rattle.lane_copies.proofs.tasks.cut_over.Goals as goal
 

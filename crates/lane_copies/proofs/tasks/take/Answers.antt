@@ -1,4 +1,4 @@
-use Rattle.lane_sections.proofs.Sections.{found_entered}
+use Rattle.cluster_site.proofs.Sections.{found_entered}
 use Rattle.lane_copies.proofs.Works.{task_extends, on_takes}
 use Rattle.lane_copies.proofs.tasks.take.Goals as goal
 

@@ -3,10 +3,10 @@ use Rattle.std.specs.Prelude.{Option}
 use Rattle.history_rules.specs.declared.entry.Event.{Event}
 use Rattle.history_rules.specs.Lines.{last_of_line}
 use Rattle.history_book.specs.Log.{printed}
-use Rattle.lane_sections.specs.Given.{AsksFor}
+use Rattle.cluster_site.specs.Given.{AsksFor}
 use Rattle.lane_threads.specs.Seats.{log_seen}
-use Rattle.lane_sections.proofs.Given.{asked_for}
-use Rattle.lane_sections.proofs.Sections.{found_entered, found_legal, call_extends, on_call_ends}
+use Rattle.cluster_site.proofs.Asked.{asked_for}
+use Rattle.cluster_site.proofs.Sections.{found_entered, found_legal, call_extends, on_call_ends}
 use Rattle.lane_lines.proofs.Searches.{evaluated_stays}
 use Rattle.lane_lines.proofs.answering.answer_line.Goals as goal
 

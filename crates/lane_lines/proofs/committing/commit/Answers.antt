@@ -4,9 +4,9 @@ use Rattle.cluster_nodes.specs.declared.tasks.CommitTask.{CommitTask}
 use Rattle.cluster_state.specs.declared.turn.Turn.{Turn}
 use Rattle.cluster_state.specs.declared.turn.Turn.TheVariants.{Work, Done, Busy}
 use Rattle.lane_threads.specs.Seats.{log_seen}
-use Rattle.lane_sections.specs.Flights.{HasCommitAt, WaitsWhere}
-use Rattle.lane_sections.specs.Turns.{IsUnbegunIn, TurnsLine}
-use Rattle.lane_sections.proofs.Sections.{takes_first, takes_then, takes_ends, on_takes_ends, commit_waited}
+use Rattle.cluster_site.specs.Flights.{HasCommitAt, WaitsWhere}
+use Rattle.cluster_site.specs.Turns.{IsUnbegunIn, TurnsLine}
+use Rattle.cluster_site.proofs.Sections.{takes_first, takes_then, takes_ends, on_takes_ends, commit_waited}
 use Rattle.lane_lines.specs.Commits.{IsCommitting}
 use Rattle.lane_lines.proofs.Commits.{on_node}
 use Rattle.lane_lines.proofs.committing.commit.Goals as goal

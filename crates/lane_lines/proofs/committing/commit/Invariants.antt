@@ -1,5 +1,5 @@
 use Rattle.script_serving.specs.declared.script.LineCommand.TheVariants.{Commit}
-use Rattle.lane_sections.specs.Turns.{TakesLineTo, IsUnbegunIn}
+use Rattle.cluster_site.specs.Turns.{TakesLineTo, IsUnbegunIn}
 use Rattle.lane_lines.proofs.committing.commit.Given as goal
 
 abbrev pub invariant-loop : goal.invariant-loop

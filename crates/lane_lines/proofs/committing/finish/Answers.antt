@@ -2,8 +2,8 @@ use Rattle.std.proofs.Common.{subst}
 use Rattle.script_serving.specs.declared.script.LineCommand.TheVariants.{Commit}
 use Rattle.cluster_state.specs.declared.turn.Turn.{Turn}
 use Rattle.cluster_state.specs.declared.turn.Turn.TheVariants.{Work, Done, Busy}
-use Rattle.lane_sections.specs.Turns.{NeverWaits, TurnsLine}
-use Rattle.lane_sections.proofs.Sections.{takes_none, takes_then, takes_ends}
+use Rattle.cluster_site.specs.Turns.{NeverWaits, TurnsLine}
+use Rattle.cluster_site.proofs.Sections.{takes_none, takes_then, takes_ends}
 use Rattle.lane_lines.specs.Commits.{HasBegunCommit}
 use Rattle.lane_lines.proofs.committing.finish.Goals as goal
 

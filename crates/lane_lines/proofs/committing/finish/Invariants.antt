@@ -1,5 +1,5 @@
 use Rattle.script_serving.specs.declared.script.LineCommand.TheVariants.{Commit}
-use Rattle.lane_sections.specs.Turns.{TakesLineTo}
+use Rattle.cluster_site.specs.Turns.{TakesLineTo}
 use Rattle.lane_lines.specs.Commits.{HasBegunCommit}
 use Rattle.lane_lines.proofs.committing.finish.Given as goal
 

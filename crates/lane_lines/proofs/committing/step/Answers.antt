@@ -1,7 +1,7 @@
 use Rattle.std.proofs.Common.{◌∙◌}
 use Rattle.script_serving.specs.declared.script.LineCommand.TheVariants.{Commit}
-use Rattle.lane_sections.specs.Turns.{NeverWaits}
-use Rattle.lane_sections.proofs.Sections.{found_entered, if_ok_two, call_extends, on_call_turns}
+use Rattle.cluster_site.specs.Turns.{NeverWaits}
+use Rattle.cluster_site.proofs.Sections.{found_entered, if_ok_two, call_extends, on_call_turns}
 use Rattle.lane_lines.specs.Commits.{HasBegunCommit}
 use Rattle.lane_lines.proofs.Commits.{step_shows}
 use Rattle.lane_lines.proofs.committing.step.Goals as goal

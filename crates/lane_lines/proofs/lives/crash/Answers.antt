@@ -1,5 +1,5 @@
 use Rattle.script_serving.specs.declared.script.LineCommand.TheVariants.{Crash}
-use Rattle.lane_sections.proofs.Sections.{found_entered, call_extends, on_call_ends}
+use Rattle.cluster_site.proofs.Sections.{found_entered, call_extends, on_call_ends}
 use Rattle.lane_lines.proofs.lives.crash.Goals as goal
 
 pub leave-requires-clause-extends : goal.leave-requires-clause-extends

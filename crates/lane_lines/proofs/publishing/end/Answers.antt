@@ -1,6 +1,6 @@
 use Rattle.std.proofs.Common.{◌∙◌}
 use Rattle.script_serving.specs.declared.script.LineCommand.TheVariants.{Publish}
-use Rattle.lane_sections.proofs.Sections.{found_entered, call_extends, on_call_ends}
+use Rattle.cluster_site.proofs.Sections.{found_entered, call_extends, on_call_ends}
 use Rattle.lane_lines.proofs.Publishes.{flushed_stays}
 use Rattle.lane_lines.proofs.publishing.end.Goals as goal
 

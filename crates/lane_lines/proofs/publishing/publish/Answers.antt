@@ -4,9 +4,9 @@ use Rattle.script_serving.specs.declared.script.LineCommand.TheVariants.{Publish
 use Rattle.cluster_state.specs.declared.turn.Turn.{Turn}
 use Rattle.cluster_state.specs.declared.turn.Turn.TheVariants.{Work, Done, Busy}
 use Rattle.lane_threads.specs.Seats.{log_seen}
-use Rattle.lane_sections.specs.Flights.{HasPublish, WaitsWhere}
-use Rattle.lane_sections.specs.Turns.{IsUnbegunIn, TurnsLine}
-use Rattle.lane_sections.proofs.Sections.{takes_first, takes_then, takes_ends, on_takes_ends, publish_waited}
+use Rattle.cluster_site.specs.Flights.{HasPublish, WaitsWhere}
+use Rattle.cluster_site.specs.Turns.{IsUnbegunIn, TurnsLine}
+use Rattle.cluster_site.proofs.Sections.{takes_first, takes_then, takes_ends, on_takes_ends, publish_waited}
 use Rattle.lane_lines.specs.Flushes.{IsFlushing}
 use Rattle.lane_lines.proofs.publishing.publish.Goals as goal
 

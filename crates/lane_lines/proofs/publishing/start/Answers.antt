@@ -2,9 +2,9 @@ use Rattle.std.proofs.lemmas.Result.{IfOk-weaker}
 use Rattle.script_serving.specs.declared.script.LineCommand.TheVariants.{Publish}
 use Rattle.cluster_state.specs.Calls.{PublishStarts}
 use Rattle.lane_threads.specs.Seats.{log_seen}
-use Rattle.lane_sections.specs.Flights.{HasPublish, WaitsWhere}
-use Rattle.lane_sections.specs.Turns.{IsUnbegunIn}
-use Rattle.lane_sections.proofs.Sections.{found_entered, if_ok_three, call_extends, on_call_turns, on_waits}
+use Rattle.cluster_site.specs.Flights.{HasPublish, WaitsWhere}
+use Rattle.cluster_site.specs.Turns.{IsUnbegunIn}
+use Rattle.cluster_site.proofs.Sections.{found_entered, if_ok_three, call_extends, on_call_turns, on_waits}
 use Rattle.lane_lines.specs.Flushes.{IsFlushing}
 use Rattle.lane_lines.proofs.Publishes.{publish_shows, publish_waits}
 use Rattle.lane_lines.proofs.publishing.start.Goals as goal

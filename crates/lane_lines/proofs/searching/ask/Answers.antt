@@ -5,8 +5,8 @@ use Rattle.script_serving.specs.declared.script.LineCommand.TheVariants.{Ask}
 use Rattle.cluster_state.specs.declared.turn.Turn.{Turn}
 use Rattle.cluster_state.specs.declared.turn.Turn.TheVariants.{Work, Done, Busy}
 use Rattle.lane_threads.specs.Seats.{log_seen}
-use Rattle.lane_sections.specs.Turns.{NeverWaits, TurnsLine}
-use Rattle.lane_sections.proofs.Sections.{on_takes_ends}
+use Rattle.cluster_site.specs.Turns.{NeverWaits, TurnsLine}
+use Rattle.cluster_site.proofs.Sections.{on_takes_ends}
 use Rattle.lane_lines.specs.Reads.{IsAskingTicket}
 use Rattle.lane_lines.proofs.Searches.{ask_evaluated, ask_asks}
 use Rattle.lane_lines.proofs.searching.ask.Goals as goal

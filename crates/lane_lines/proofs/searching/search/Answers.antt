@@ -5,8 +5,8 @@ use Rattle.script_serving.specs.declared.script.LineCommand.TheVariants.{Search}
 use Rattle.cluster_state.specs.declared.turn.Turn.{Turn}
 use Rattle.cluster_state.specs.declared.turn.Turn.TheVariants.{Work, Done, Busy}
 use Rattle.lane_threads.specs.Seats.{log_seen}
-use Rattle.lane_sections.specs.Turns.{NeverWaits, TurnsLine}
-use Rattle.lane_sections.proofs.Sections.{on_takes_ends}
+use Rattle.cluster_site.specs.Turns.{NeverWaits, TurnsLine}
+use Rattle.cluster_site.proofs.Sections.{on_takes_ends}
 use Rattle.lane_lines.specs.Reads.{IsSearchingNode}
 use Rattle.lane_lines.proofs.Searches.{search_evaluated, search_asks}
 use Rattle.lane_lines.proofs.searching.search.Goals as goal

@@ -1,6 +1,6 @@
 use Rattle.script_serving.specs.declared.script.LineCommand.TheVariants.{Ask}
-use Rattle.lane_sections.specs.Turns.{NeverWaits}
-use Rattle.lane_sections.proofs.Sections.{found_entered, call_extends, call_turns}
+use Rattle.cluster_site.specs.Turns.{NeverWaits}
+use Rattle.cluster_site.proofs.Sections.{found_entered, call_extends, call_turns}
 use Rattle.lane_lines.specs.Reads.{IsAskingTicket}
 use Rattle.lane_lines.proofs.Searches.{ask_shows, any_query}
 use Rattle.lane_lines.proofs.searching.start_ask.Goals as goal

@@ -1,6 +1,6 @@
 use Rattle.script_serving.specs.declared.script.LineCommand.TheVariants.{Search}
-use Rattle.lane_sections.specs.Turns.{NeverWaits}
-use Rattle.lane_sections.proofs.Sections.{found_entered, if_ok_three, call_extends, on_call_turns}
+use Rattle.cluster_site.specs.Turns.{NeverWaits}
+use Rattle.cluster_site.proofs.Sections.{found_entered, if_ok_three, call_extends, on_call_turns}
 use Rattle.lane_lines.specs.Reads.{IsSearchingNode}
 use Rattle.lane_lines.proofs.Searches.{search_shows, any_query}
 use Rattle.lane_lines.proofs.searching.start_search.Goals as goal

@@ -1,5 +1,5 @@
-use Rattle.lane_sections.specs.Given.{writing_command}
-use Rattle.lane_sections.proofs.Sections.{found_entered, call_extends, on_call_ends}
+use Rattle.cluster_site.specs.Given.{writing_command}
+use Rattle.cluster_site.proofs.Sections.{found_entered, call_extends, on_call_ends}
 use Rattle.lane_lines.proofs.writing.write.Goals as goal
 
 pub leave-requires-clause-extends : goal.leave-requires-clause-extends

@@ -27,3 +27,6 @@ pub returns-in_ok-is_dir_failed-in-Err : goal.returns-in_ok-is_dir_failed-in-Err
 returns-in_ok-is_dir_failed-in-Err g c =
     loses_writing g.D.Dir.cells c.args.job c.args.part c.args.replica.now c.arrived.new.self c.drop_copy.new.replica c.in-Some.copy.now (sym c.in-Some.ensures) (sym c.if-not-lacks.ensures.is) c.in-Err.ensures.err
     c.in-Err.ensures.standing c.in-Err.ensures.sourced c.in-Err.ensures.appears c.drop_copy.ensures
+
+pub is_dir_failed-requires : goal.is_dir_failed-requires
+is_dir_failed-requires g c = c.in-Err.ensures.fault

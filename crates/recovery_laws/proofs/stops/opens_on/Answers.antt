@@ -1,4 +1,4 @@
 use Rattle.recovery_laws.proofs.stops.opens_on.Goals as goal
 
 pub returns-in-Ok : goal.returns-in-Ok
-returns-in-Ok g c = record { point = c.in-Ok.ensures.point; documents = c.in-Ok.ensures.documents }
+returns-in-Ok g c = c.in-Ok.ensures.opened

@@ -24,7 +24,7 @@ hold_there-requires g c =
     opened_there (g.D.Dir.cells c.args.dir.now) c.in_ok-commit.commit c.args.number c.args.infos.now c.as_slice.result.now c.in_ok-commit.ensures.commit c.in_ok-commit.ensures.number c.in_ok-commit.ensures.infos
     c.requires.shown c.requires.there c.as_slice.ensures
 
-pub returns-clause-sound : goal.returns-clause-sound
-returns-clause-sound g c images =
+pub returns-in-Ok-clause-sound : goal.returns-in-Ok-clause-sound
+returns-in-Ok-clause-sound g c images =
     opened_sound (g.D.Dir.cells c.args.dir.now) c.hold_there.new.self c.in_ok-commit.commit c.args.number c.args.infos.now c.args.next c.in_ok-commit.ensures.commit c.in_ok-commit.ensures.number c.in_ok-commit.ensures.infos
     images c.requires.next

@@ -18,9 +18,9 @@ returns-in_err-make_room-clause-step g c =
     (step_refused (g.D.Dir.cells c.args.dir.now) c.args.files.now c.args.self.now c.requires.sound c.requires.counted)
 
 pub returns-in-Ok-Going-clause-step : goal.returns-in-Ok-Going-clause-step
-returns-in-Ok-Going-clause-step g c =
-    going (g.D.Dir.cells c.args.dir.now) (g.D.Dir.cells c.advance.new.dir) c.args.files.now c.make_room.new.self c.advance.new.files (max c.args.files.now.room 1) c.args.self.now c.in-Some.stage
-    c.in_ok-make_room.ensures.ok (sym c.in-Some.ensures.value) c.requires.sound c.in-Ok-Going.stage (subst (λ (p : Progress). Leads (g.D.Dir.cells c.args.dir.now) (g.D.Dir.cells c.advance.new.dir) c.make_room.new.self c.advance.new.files c.in-Some.stage p) c.in-Ok-Going.field-0-is c.in-Ok-Going.ensures.advances.ok.1) c.requires.counted
+returns-in-Ok-Going-clause-step g c = rw c.put.ensures
+    (going (g.D.Dir.cells c.args.dir.now) (g.D.Dir.cells c.advance.new.dir) c.args.files.now c.make_room.new.self c.advance.new.files (max c.args.files.now.room 1) c.args.self.now c.in-Some.stage
+    c.in_ok-make_room.ensures.ok (sym c.in-Some.ensures.value) c.requires.sound c.in-Ok-Going.stage (subst (λ (p : Progress). Leads (g.D.Dir.cells c.args.dir.now) (g.D.Dir.cells c.advance.new.dir) c.make_room.new.self c.advance.new.files c.in-Some.stage p) c.in-Ok-Going.field-0-is c.in-Ok-Going.ensures.advances.ok.1) c.requires.counted)
 
 pub returns-in-Ok-Going-clause-done : goal.returns-in-Ok-Going-clause-done
 returns-in-Ok-Going-clause-done g c = going_not_last c.in-Some.stage c.in-Ok-Going.stage (sym c.in-Ok-Going.field-0-is ∙ c.in-Ok-Going.ensures.advances.ok.0) ∙ ap is_last_step c.in-Some.ensures.value
@@ -40,11 +40,11 @@ returns-in-Ok-Made-clause-made g c told =
     c.in_ok-make_room.ensures.ok (sym c.in-Some.ensures.value) c.requires.sound c.in-Ok-Made.commit (subst (λ (p : Progress). Leads (g.D.Dir.cells c.args.dir.now) (g.D.Dir.cells c.advance.new.dir) c.make_room.new.self c.advance.new.files c.in-Some.stage p) c.in-Ok-Made.field-0-is c.in-Ok-Made.ensures.advances.ok.1) c.requires.counted c.make.new.files (g.D.Dir.cells c.make.new.dir) c.make.ensures.lets))
 
 pub returns-in-Err-clause-step : goal.returns-in-Err-clause-step
-returns-in-Err-clause-step g c =
-    subst (λ (s : Stage). IsBookStep (g.D.Dir.cells c.args.dir.now) (g.D.Dir.cells c.advance.new.dir) c.args.files.now c.advance.new.files c.args.self.now (record { last = c.args.self.now.last; stage = Some s; next = c.args.self.now.next }))
+returns-in-Err-clause-step g c = rw c.put-in-Err.ensures
+    (subst (λ (s : Stage). IsBookStep (g.D.Dir.cells c.args.dir.now) (g.D.Dir.cells c.advance.new.dir) c.args.files.now c.advance.new.files c.args.self.now (record { last = c.args.self.now.last; stage = Some s; next = c.args.self.now.next }))
     (sym c.in-Err.ensures.advances.err.0)
     (going (g.D.Dir.cells c.args.dir.now) (g.D.Dir.cells c.advance.new.dir) c.args.files.now c.make_room.new.self c.advance.new.files (max c.args.files.now.room 1) c.args.self.now c.in-Some.stage
-    c.in_ok-make_room.ensures.ok (sym c.in-Some.ensures.value) c.requires.sound c.in-Some.stage c.in-Err.ensures.advances.err.1 c.requires.counted)
+    c.in_ok-make_room.ensures.ok (sym c.in-Some.ensures.value) c.requires.sound c.in-Some.stage c.in-Err.ensures.advances.err.1 c.requires.counted))
 
 pub returns-in_err-make_room-clause-calls : goal.returns-in_err-make_room-clause-calls
 returns-in_err-make_room-clause-calls g c =

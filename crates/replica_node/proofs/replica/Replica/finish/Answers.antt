@@ -63,8 +63,8 @@ returns-in-Ok-advance-clause-standing g c = rw (← c.self.view_is)
     (record { running = c.self.inside.parts.copies.running; pending = c.in-Ok-part_pending.left.pending }) c.as_slice-2.result.now (copies_split c.self.inside.parts.copies c.want-2.result.now c.in-Ok-part_pending.left c.in-Ok-part_pending.ensures c.as_slice-2.result.now c.as_slice-2.ensures.value) refl (left_settled c.self.inside.parts.copies.pending c.want-2.result.now c.in-Ok-part_pending.left c.in-Ok-part_pending.ensures c.self.invariant.merges.pending) (left_unexpected c.self.inside.parts.copies.pending c.want-2.result.now c.in-Ok-part_pending.left c.in-Ok-part_pending.ensures c.self.invariant.merges.unexpected) c.in-Ok-advance.point c.in-Ok-advance.ensures.ok c.as_slice-in-Ok-advance.result.now c.as_slice-in-Ok-advance.ensures c.release.new.dir c.release.new.self c.replace.new.self c.take.new.self c.release.ensures.lets_go c.replace.ensures.point c.replace.ensures.tickets c.take.ensures.after
     c.keep_held.new.self c.keep_held.ensures)
 
-pub invariant_of-self-in-Err-advance : goal.invariant_of-self-in-Err-advance
-invariant_of-self-in-Err-advance g c =
+pub invariant_of-self-in-Err : goal.invariant_of-self-in-Err
+invariant_of-self-in-Err g c =
     refused_whole g.D.Dir.cells c.self.inside.parts c.self.invariant c.in-Some-take.field-0 (sym c.in-Some-take.ensures.value) (rw (← c.self.view_is) at c.requires.complete) (rw (← c.self.view_is) at c.requires.standing) c.as_slice.result.now c.note_wanted.new.known (want_slice c.self.inside.parts.job c.in-Some.job c.in-Some-take.field-0 c.as_slice.result.now c.in-Some.is (sym c.in-Some-take.ensures.value) (c.as_slice.ensures ∙ ap (λ w. w.files) c.want.ensures)) c.note_wanted.ensures.some c.in-Ok.ensures.all c.advance.new.dir c.advance.new.files c.advance.new.copy c.in-Err.ensures.job c.in-Err.ensures.parts c.in-Err.ensures.err c.in-Err.ensures.able c.told.ensures c.in-Err.ensures.still
 
 pub returns-in-Err-clause-whole : goal.returns-in-Err-clause-whole

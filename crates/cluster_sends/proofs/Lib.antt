@@ -1,2 +1,0 @@
-mod FarPlans
-mod SendPaths

@@ -1,2 +1,0 @@
-mod CopyLaws
-mod ShortInfos

@@ -1,5 +1,0 @@
-use Rattle.copy_job.proofs.TestLaws.{whole_empty}
-use Rattle.copy_job.proofs.tests.takeovers.empty.Goals as goal
-
-pub returns : goal.returns
-returns c = whole_empty _ c.in_ok-files.files c.in_ok-dir.ensures.table c.in_ok-files.ensures

@@ -1,0 +1,4 @@
+mod Leaving
+mod Loads
+mod NodeTextLaws
+mod Shown

@@ -1,0 +1,5 @@
+pub mod Headline
+pub mod Load
+pub mod NodeTexts
+pub mod Rows
+pub mod TopCalls

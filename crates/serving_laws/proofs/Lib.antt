@@ -1,5 +1,0 @@
-mod FinishLemmas
-mod FitLemmas
-mod PlainServingLaws
-pub mod ReplayLemmas
-pub mod Unprinted

@@ -1,4 +1,0 @@
-pub mod Determined
-pub mod Finishing
-pub mod PlainServing
-pub mod Replay

@@ -1,0 +1,9 @@
+pub mod Reads
+pub mod Scripts
+pub mod Numbered
+pub mod Frames
+pub mod Check
+pub mod Judge
+pub mod Pictures
+pub mod Complete
+pub mod Statuses
