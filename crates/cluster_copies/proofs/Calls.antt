@@ -1,11 +1,13 @@
 -- What calls of copies and settles rest on behind the faults that they met, in the terms of a call.
-use Rattle.std.proofs.Common.{◌≡◌, ◌≢◌, ◌<◌, ◌==◌, ◌||◌, nat_lt, ℕ, Bool, true, false, if◌then◌else◌, List, ◌∷◌, ◌⊎◌, inl, inr, Some, None, Option, refl, ap, ◌∙◌, sym, subst, length}
+use Rattle.std.proofs.Common.{◌≡◌, ◌≢◌, ◌<◌, ◌≤◌, ◌+◌, ◌*◌, arith, map, ◌==◌, ◌||◌, nat_lt, ℕ, Bool, true, false, if◌then◌else◌, List, ◌∷◌, ◌⊎◌, inl, inr, Some, None, Option, refl, ap, ◌∙◌, sym, subst, length}
 use Rattle.std.specs.Prelude.{IfSome, not}
 use Rattle.std.proofs.lemmas.Bool.{eq-eqb, eqb-true, or_right}
+use Rattle.std.proofs.lemmas.List.{length-map}
 use Rattle.nrt_base.specs.declared.numbers.At.{At}
 use Rattle.nrt_base.specs.declared.numbers.NodeNo.{NodeNo}
 use Rattle.nrt_base.specs.declared.numbers.Version.{Version}
 use Rattle.disk_model.specs.Disk.{Name, Cells}
+use Rattle.disk_model.specs.Faults.{Plans}
 use Rattle.copy_job.specs.declared.copying.Part.{Part}
 use Rattle.copy_job.proofs.Placings.{own_to}
 use Rattle.replica_node.specs.declared.job.PointJob.{PointJob}
@@ -15,7 +17,7 @@ use Rattle.history_rules.specs.declared.cause.Cause.TheVariants.{DiskFault}
 use Rattle.history_rules.specs.declared.entry.Event.{Event}
 use Rattle.history_rules.specs.declared.entry.Event.TheVariants.{Publishing, Copying, Settling, Refused}
 use Rattle.history_rules.specs.Nodes.{Past, IsNode, IsReplica, is_at, is_running, primary_of, crashes, primary_crashes, newest_version, version_of}
-use Rattle.history_rules.specs.Lines.{start_entry, before_start, highest_switched, SourceSurvives, copy_in_flight}
+use Rattle.history_rules.specs.Lines.{start_entry, before_start, is_answered, SourceSurvives, copy_in_flight}
 use Rattle.history_rules.specs.Points.{IsDrawnFile}
 use Rattle.history_rules.specs.Rules.{IsLineWhole, fetches_at}
 use Rattle.history_rules.specs.Legal.{KeepsRule, IsLegalPast}
@@ -46,7 +48,7 @@ use Rattle.history_rules.specs.Faults.{has_just_failed}
 use Rattle.cluster_state.specs.FileChanges.{is_commit_line}
 use Rattle.cluster_state.specs.Copies.{JobRuns}
 use Rattle.cluster_state.specs.Settles.{WaitsFor}
-use Rattle.cluster_state.specs.Met.{with_met, has_risen, ClusterStands}
+use Rattle.cluster_state.specs.Met.{ArePlanned, met_in, with_met, has_risen, ClusterStands}
 use Rattle.cluster_state.proofs.Naming.{FilesLast}
 use Rattle.cluster_state.proofs.FilesDue.{due_meets, due_stands, fetches, plans_still}
 use Rattle.cluster_state.proofs.JobsLeft.{files_are}
@@ -55,6 +57,7 @@ use Rattle.cluster_state.proofs.Ledgers.{asked_of, asked_size}
 use Rattle.cluster_state.proofs.MetFails.{risen_fails}
 use Rattle.cluster_state.proofs.Planned.{met_there}
 use Rattle.cluster_state.proofs.MetStands.{behind, run_behind, counted, stands_behind}
+use Rattle.cluster_copies.specs.Going.{IsGoing, HasRoomToTell, CanTell}
 use Rattle.cluster_copies.proofs.CopyPaths.{copy_before, copy_entry, copy_open, copy_switched, may_copy}
 use Rattle.cluster_copies.proofs.Ending.{not_publish, not_commit}
 use Rattle.cluster_copies.proofs.Failing.{altered_stands, refused_stands, started_stands, stopped_stands}
@@ -80,6 +83,11 @@ pub record Call {D : Type 0} (cells : D → Cells) (r : Run) (b0 b1 : Sheet) (ol
   pub n1 : b1.nodes ≡ b0.nodes
   pub c1 : b1.cut ≡ b0.cut
 
+-- by what a function knows
+abbrev pub call_of : {D : Type 0} {cells : D → Cells} {r : Run} {b0 b1 : Sheet} {old : List (Option (NodePlace D))} {board : Board} {ended : Bool} {left : Rest} → record { ended = ended; nodes = b0.nodes; log = b0.log; rest = left } ≡ r → r.ended ≡ false
+    → (ended ≡ false → ClusterStands cells b0.nodes old b0.cut board b0.log) → b1.log ≡ b0.log → b1.nodes ≡ b0.nodes → b1.cut ≡ b0.cut → Call cells r b0 b1 old board
+call_of {ended = ended} {left = left} view running all e1 n1 c1 = record { ended = ended; left = left; view = view; running = running; all = all; e1 = e1; n1 = n1; c1 = c1 }
+
 module _ {D : Type 0} {cells : D → Cells} {r : Run} {b0 b1 : Sheet} {old : List (Option (NodePlace D))} {board : Board} (k : Call cells r b0 b1 old board) where
   pub as_nodes : length old ≡ b1.nodes
   as_nodes = counted cells r k.ended b0 b1 old board k.view k.running k.all k.n1
@@ -93,6 +101,29 @@ module _ {D : Type 0} {cells : D → Cells} {r : Run} {b0 b1 : Sheet} {old : Lis
 
   pub nodes_have : (P : ℕ → Type 0) → P r.nodes → P b1.nodes
   nodes_have P has = asked_size P k.view k.n1 has
+
+-- ---- what disks met is told
+
+-- there is room for it, as it was made for what they had met
+pub ledger_room : {D : Type 0} (cells : D → Cells) (planned : D → Plans) (r : Run) (b0 b1 : Sheet) (old : List (Option (NodePlace D))) (board : Board) (more : ℕ) {ended : Bool} {left : Rest} {before items : List (ℕ × ℕ)}
+    → record { ended = ended; nodes = b0.nodes; log = b0.log; rest = left } ≡ r → r.ended ≡ false → (ended ≡ false → ClusterStands cells b0.nodes old b0.cut board b0.log) → b1.nodes ≡ b0.nodes
+    → before ≡ items → items ≡ map (met_in planned) old → 2 * length items + more ≤ b1.room → length items ≤ 255 → HasRoomToTell more before old b1
+ledger_room cells planned r b0 b1 old board more {ended = ended} {before = before} {items = items} view running all n1 same met room few =
+    let counts : length old ≡ b1.nodes = counted cells r ended b0 b1 old board view running all n1 in
+    record {
+      room = subst (λ (xs : List (ℕ × ℕ)). 2 * length xs + more ≤ b1.room) (sym same) room;
+      count = ap (λ (xs : List (ℕ × ℕ)). length xs) (same ∙ met) ∙ (length-map old (met_in planned) ∙ counts);
+      nodes = counts;
+      few = subst (λ (xs : List (ℕ × ℕ)). length xs ≤ 255) (sym same) few;
+    }
+
+pub can_tell : {D : Type 0} (planned : D → Plans) {at : At} {more : ℕ} {before : List (ℕ × ℕ)} {old : List (Option (NodePlace D))} {b : Sheet} (less : ℕ) (new : List (Option (NodePlace D))) → HasRoomToTell more before old b → less ≤ more → length new ≡ length old
+    → ArePlanned 1 before (map (met_in planned) new) (printed b.log) → is_answered at (printed b.log) ≡ false → CanTell planned at less before new b
+can_tell planned less new r fewer same met unanswered = record {
+  room = record { room = (let room = r.room in omega (arith, room, fewer)); count = r.count; nodes = same ∙ r.nodes; few = r.few };
+  met = met;
+  unanswered = unanswered;
+}
 
 -- ---- what the files of jobs are
 
@@ -129,85 +160,59 @@ module _ {D : Type 0} (r now : Run) (old new : List (Option (NodePlace D))) (bef
 
 -- ---- calls of a job that runs
 
-pub record JobCall {D : Type 0} (cells : D → Cells) (r : Run) (b0 b1 : Sheet) (old : List (Option (NodePlace D))) (board : Board) (row : JobRow) (p : NodeNo) : Type 0 where
-  pub call : Call cells r b0 b1 old board
-  pub runs : JobRuns r.log row
-  pub line : open_line row.job.at (printed r.log) ≢ None
-  pub ordered : highest_switched row.job.at (printed r.log) < row.job.node.0
-  pub legal : IsLegalPast b0.nodes (printed b0.log)
-  pub lane : LaneJobShows b0.nodes (printed b0.log) row
-  pub replica : IsReplica (printed b0.log) row.job.node.0
-  pub node_p : IsNode r.nodes p.0
-  pub primary : primary_of (printed r.log) ≡ Some p
+-- what a job rests on stays, where the log and the number of nodes are the same
+pub going_same : {row : JobRow} {p : NodeNo} {m n : ℕ} {a b : Log} → n ≡ m → b ≡ a → IsGoing row p m a → IsGoing row p n b
+going_same {row = row} {p = p} same_nodes same_log going = subst (λ (x : ℕ × Log). IsGoing row p x.0 x.1) (λ i. (sym same_nodes i, sym same_log i)) going
 
-module _ {D : Type 0} {cells : D → Cells} {r : Run} {b0 b1 : Sheet} {old : List (Option (NodePlace D))} {board : Board} {row : JobRow} {p : NodeNo} (k : JobCall cells r b0 b1 old board row p) where
+pub going_at : {row : JobRow} {p : NodeNo} {r : Run} {ended : Bool} {m n : ℕ} {a b : Log} {left : Rest} → record { ended = ended; nodes = m; log = a; rest = left } ≡ r → n ≡ m → b ≡ a → IsGoing row p r.nodes r.log → IsGoing row p n b
+going_at view same_nodes same_log going = going_same (same_nodes ∙ ap (λ (x : Run). x.nodes) view) (same_log ∙ ap (λ (x : Run). x.log) view) going
+
+module _ {row : JobRow} {p : NodeNo} {size : ℕ} {log : Log} (w : IsGoing row p size log) where
   abbrev at : At
   at = row.job.at
 
   abbrev n : ℕ
   n = row.job.node.0
 
-  -- at the log with room
-  runs1 : JobRuns b1.log row
-  runs1 = log_has k.call (λ l. JobRuns l row) k.runs
+  begun1 : (begun : Event) × (start_entry at (printed log) ≡ Some begun)
+  begun1 = job_start (before_start at (printed log)) n row.job.version.0 (start_entry at (printed log)) w.lane.started
 
-  line1 : open_line at (printed b1.log) ≢ None
-  line1 = log_has k.call (λ l. open_line at (printed l) ≢ None) k.line
-
-  ordered1 : highest_switched at (printed b1.log) < n
-  ordered1 = log_has k.call (λ l. highest_switched at (printed l) < n) k.ordered
-
-  legal1 : IsLegalPast b1.nodes (printed b1.log)
-  legal1 = subst (λ (x : ℕ × Log). IsLegalPast x.0 (printed x.1)) (λ i. (sym k.call.n1 i, sym k.call.e1 i)) k.legal
-
-  lane1 : LaneJobShows b1.nodes (printed b1.log) row
-  lane1 = subst (λ (x : ℕ × Log). LaneJobShows x.0 (printed x.1) row) (λ i. (sym k.call.n1 i, sym k.call.e1 i)) k.lane
-
-  node1 : IsNode b1.nodes p.0
-  node1 = nodes_have k.call (λ z. IsNode z p.0) k.node_p
-
-  primary1 : primary_of (printed b1.log) ≡ Some p
-  primary1 = log_has k.call (λ l. primary_of (printed l) ≡ Some p) k.primary
-
-  begun1 : (begun : Event) × (start_entry at (printed b1.log) ≡ Some begun)
-  begun1 = job_start (before_start at (printed b1.log)) n row.job.version.0 (start_entry at (printed b1.log)) lane1.started
-
-  starts1 : StartsJob (before_start at (printed b1.log)) n row.job.version.0 (Some begun1.0)
-  starts1 = subst (λ (o : Option Event). StartsJob (before_start at (printed b1.log)) n row.job.version.0 o) begun1.1 lane1.started
+  starts1 : StartsJob (before_start at (printed log)) n row.job.version.0 (Some begun1.0)
+  starts1 = subst (λ (o : Option Event). StartsJob (before_start at (printed log)) n row.job.version.0 o) begun1.1 w.lane.started
 
   module _ (olds news : List (ℕ × ℕ)) where
     abbrev met : Log
-    met = with_met false at 1 olds news b1.log
+    met = with_met false at 1 olds news log
 
-    words : SameWords at b1.log met
-    words = met_words at at olds news b1.log
+    words : SameWords at log met
+    words = met_words at at olds news log
 
     pub runs_met : JobRuns met row
-    runs_met = runs_still row b1.log met words runs1
+    runs_met = runs_still row log met words w.runs
 
-    pub lane_met : LaneJobShows b1.nodes (printed met) row
-    lane_met = lane_still b1.nodes row at olds news b1.log lane1
+    pub lane_met : LaneJobShows size (printed met) row
+    lane_met = lane_still size row at olds news log w.lane
 
     pub replica_met : IsReplica (printed met) n
-    replica_met = replica_still at b1.log met words n (subst (λ (l : Log). IsReplica (printed l) n) (sym k.call.e1) k.replica)
+    replica_met = replica_still at log met words n w.replica
 
-    pub source_met : IsNode b1.nodes p.0
-    source_met = node1
+    pub source_met : IsNode size p.0
+    source_met = w.source
 
     pub line_met : open_line at (printed met) ≢ None
-    line_met = line_still at b1.log met words line1
+    line_met = line_still at log met words w.line
 
-    pub begun_met : start_entry at (printed met) ≡ start_entry at (printed b1.log)
+    pub begun_met : start_entry at (printed met) ≡ start_entry at (printed log)
     begun_met = words.begun
 
     pub primary_met : primary_of (printed met) ≡ Some p
-    primary_met = words.primary ∙ primary1
+    primary_met = words.primary ∙ w.primary
 
     -- a file for its node may meet a fault
-    pub fetches_met : fetches_at b1.nodes at (printed met) n ≡ true
-    fetches_met = fetches b1.nodes at (printed met) n row.job.version.0 lane_met.node lane_met.started
+    pub fetches_met : fetches_at size at (printed met) n ≡ true
+    fetches_met = fetches size at (printed met) n row.job.version.0 lane_met.node lane_met.started
 
-    pub alive1 : is_running n (printed b1.log) ≡ true
+    pub alive1 : is_running n (printed log) ≡ true
     alive1 = sym (words.running n) ∙ replica_met.running
 
     -- at the log behind those that the next file meets
@@ -217,14 +222,11 @@ module _ {D : Type 0} {cells : D → Cells} {r : Run} {b0 b1 : Sheet} {old : Lis
     words_due : SameWords at met due
     words_due = due_words at at n met
 
-    pub due_stand : ClusterStands cells b1.nodes old b1.cut board due
-    due_stand = due_stands cells b1.nodes old b1.cut board false at n met (met_stands k.call at olds news)
-
     pub runs_due : JobRuns due row
     runs_due = runs_still row met due words_due runs_met
 
-    pub lane_due : LaneJobShows b1.nodes (printed due) row
-    lane_due = lane_due_still b1.nodes row at n met lane_met
+    pub lane_due : LaneJobShows size (printed due) row
+    lane_due = lane_due_still size row at n met lane_met
 
     pub replica_due : IsReplica (printed due) n
     replica_due = replica_still at met due words_due n replica_met
@@ -233,29 +235,29 @@ module _ {D : Type 0} {cells : D → Cells} {r : Run} {b0 b1 : Sheet} {old : Lis
     primary_due = words_due.primary ∙ primary_met
 
     -- the line has met what makes of the file what becomes of it
-    pub meets_due : (fate_due n b1.log ≡ Whole) ⊎ IsLineWhole b1.nodes (printed b1.log) at → MeetsFate (fate_due n met) at n (printed due)
+    pub meets_due : (fate_due n log ≡ Whole) ⊎ IsLineWhole size (printed log) at → MeetsFate (fate_due n met) at n (printed due)
     meets_due spared = elim spared [
-      | inl whole ↦ subst (λ (f : Fate). MeetsFate f at n (printed due)) (sym (ap fate_by (plans_still false n at olds news b1.log) ∙ whole)) tt
+      | inl whole ↦ subst (λ (f : Fate). MeetsFate f at n (printed due)) (sym (ap fate_by (plans_still false n at olds news log) ∙ whole)) tt
       | inr whole ↦ due_meets false at n (file_plans n met) met
-          (whole_still b1.nodes at at olds news b1.log whole n lane_met.node (node_still at b1.log met words n runs1.survives))
+          (whole_still size at at olds news log whole n lane_met.node (node_still at log met words n w.runs.survives))
     ]
 
     -- its line may be refused for the disk of its source, and for that of its node
-    pub source_rule : has_risen p.0 1 olds news ≡ true → KeepsRule b1.nodes (printed met) at (Refused DiskFault)
-    source_rule risen = fails_met b1.nodes at p.0 olds news b1.log
-        (meets_source b1.nodes (printed b1.log) at n row.job.version.0 legal1 begun1.0 begun1.1 starts1 line1 ordered1 runs1.survives runs1.source p primary1) risen
+    pub source_rule : has_risen p.0 1 olds news ≡ true → KeepsRule size (printed met) at (Refused DiskFault)
+    source_rule risen = fails_met size at p.0 olds news log
+        (meets_source size (printed log) at n row.job.version.0 w.legal begun1.0 begun1.1 starts1 w.line w.ordered w.runs.survives w.runs.source p w.primary) risen
 
-    pub node_rule : has_risen n 1 olds news ≡ true → KeepsRule b1.nodes (printed met) at (Refused DiskFault)
-    node_rule risen = fails_met b1.nodes at n olds news b1.log
-        (meets_node b1.nodes (printed b1.log) at n row.job.version.0 legal1 begun1.0 begun1.1 starts1 line1 ordered1 runs1.survives runs1.source lane1.node) risen
+    pub node_rule : has_risen n 1 olds news ≡ true → KeepsRule size (printed met) at (Refused DiskFault)
+    node_rule risen = fails_met size at n olds news log
+        (meets_node size (printed log) at n row.job.version.0 w.legal begun1.0 begun1.1 starts1 w.line w.ordered w.runs.survives w.runs.source w.lane.node) risen
 
     -- and for what it met in a file
-    pub file_rule : (fate : Fate) (name : Name) → fate ≢ Whole → MeetsFate fate at n (printed r.log) → IsDrawnFile (printed met) name → KeepsRule b1.nodes (printed met) at (Refused (fate_cause fate name))
+    pub file_rule : (fate : Fate) (name : Name) → fate ≢ Whole → MeetsFate fate at n (printed log) → IsDrawnFile (printed met) name → KeepsRule size (printed met) at (Refused (fate_cause fate name))
     file_rule fate name broken found drawn =
-        let meets : MeetsFault b1.nodes (printed b1.log) at n = meets_node b1.nodes (printed b1.log) at n row.job.version.0 legal1 begun1.0 begun1.1 starts1 line1 ordered1 runs1.survives runs1.source lane1.node in
-        breaks_met b1.nodes at n olds news b1.log fate name meets
-        (at_here b1.nodes (printed b1.log) at n row.job.version.0 lane1.node meets.begun (subst (λ (o : Option Event). StartsJob (before_start at (printed b1.log)) n row.job.version.0 o) meets.started lane1.started))
-        broken (log_has k.call (λ l. MeetsFate fate at n (printed l)) found) drawn
+        let meets : MeetsFault size (printed log) at n = meets_node size (printed log) at n row.job.version.0 w.legal begun1.0 begun1.1 starts1 w.line w.ordered w.runs.survives w.runs.source w.lane.node in
+        breaks_met size at n olds news log fate name meets
+        (at_here size (printed log) at n row.job.version.0 w.lane.node meets.begun (subst (λ (o : Option Event). StartsJob (before_start at (printed log)) n row.job.version.0 o) meets.started w.lane.started))
+        broken found drawn
 
     pub broken_turn : (cause : Cause) → InTurn (printed met) at (Refused cause)
     broken_turn cause = break_turn (printed met) at cause line_met
@@ -268,30 +270,57 @@ module _ {D : Type 0} {cells : D → Cells} {r : Run} {b0 b1 : Sheet} {old : Lis
     refused_job cause None = refl
     refused_job cause (Some x) = refl
 
-    pub out_met : (part : Option Part) → IfSome part (λ x. file_out at n row.job.number x.name r.log ≡ Some x.bytes) → IfSome part (λ x. file_out at n row.job.number x.name met ≡ Some x.bytes)
+    -- it is the one that went on
+    pub job_met : (cause : Cause) → job_at n (shown at (Refused cause) ∷ met) ≡ Some row.job
+    job_met cause = refused_job cause (last_job false n met) ∙ (words.job n ∙ runs_at size log row w.runs w.lane)
+
+    pub out_met : (part : Option Part) → IfSome part (λ x. file_out at n row.job.number x.name log ≡ Some x.bytes) → IfSome part (λ x. file_out at n row.job.number x.name met ≡ Some x.bytes)
     out_met None out = tt
-    out_met (Some part) out = words.file n row.job.number part.name ∙ log_has k.call (λ l. file_out at n row.job.number part.name l ≡ Some part.bytes) out
+    out_met (Some part) out = words.file n row.job.number part.name ∙ out
+
+pub record JobCall {D : Type 0} (cells : D → Cells) (r : Run) (b0 b1 : Sheet) (old : List (Option (NodePlace D))) (board : Board) (row : JobRow) (p : NodeNo) : Type 0 where
+  pub call : Call cells r b0 b1 old board
+  pub going : IsGoing row p r.nodes r.log
+
+abbrev pub job_call : {D : Type 0} {cells : D → Cells} {r : Run} {b0 b1 : Sheet} {old : List (Option (NodePlace D))} {board : Board} {row : JobRow} {p : NodeNo} → Call cells r b0 b1 old board → IsGoing row p r.nodes r.log → JobCall cells r b0 b1 old board row p
+job_call call going = record { call = call; going = going }
+
+module _ {D : Type 0} {cells : D → Cells} {r : Run} {b0 b1 : Sheet} {old : List (Option (NodePlace D))} {board : Board} {row : JobRow} {p : NodeNo} (k : JobCall cells r b0 b1 old board row p) where
+  -- at the ledger before and behind the call that made room
+  pub going0 : IsGoing row p b0.nodes b0.log
+  going0 = going_at k.call.view refl refl k.going
+
+  pub going1 : IsGoing row p b1.nodes b1.log
+  going1 = going_at k.call.view k.call.n1 k.call.e1 k.going
+
+  module _ (olds news : List (ℕ × ℕ)) where
+    pub due_stand : ClusterStands cells b1.nodes old b1.cut board (with_due false row.job.at row.job.node.0 (with_met false row.job.at 1 olds news b1.log))
+    due_stand = due_stands cells b1.nodes old b1.cut board false row.job.at row.job.node.0 (with_met false row.job.at 1 olds news b1.log) (met_stands k.call row.job.at olds news)
+
+    abbrev behind_met : Log
+    behind_met = with_met false row.job.at 1 olds news b1.log
 
     -- it was refused, and the job stopped
-    pub refused_path : (cause : Cause) (b2 : Sheet) (new : List (Option (NodePlace D))) (part : Option Part) → FilesLast → IsLegalPast b1.nodes (printed met) → AreInTurn (printed met) → KeepsRule b1.nodes (printed met) at (Refused cause)
-        → b2.log ≡ kept (JobEnd at.line row.job.node row.job.number) ∷ shown at (Refused cause) ∷ met → b2.nodes ≡ b1.nodes → b2.cut ≡ b1.cut
-        → IfSome part (λ x. file_out at n row.job.number x.name r.log ≡ Some x.bytes) → StopsIn cells part p.0 n old new → ClusterStands cells b2.nodes new b2.cut board b2.log
+    pub refused_path : (cause : Cause) (b2 : Sheet) (new : List (Option (NodePlace D))) (part : Option Part) → FilesLast → IsLegalPast b1.nodes (printed behind_met) → AreInTurn (printed behind_met) → KeepsRule b1.nodes (printed behind_met) row.job.at (Refused cause)
+        → b2.log ≡ kept (JobEnd row.job.at.line row.job.node row.job.number) ∷ shown row.job.at (Refused cause) ∷ behind_met → b2.nodes ≡ b1.nodes → b2.cut ≡ b1.cut
+        → IfSome part (λ x. file_out row.job.at row.job.node.0 row.job.number x.name b1.log ≡ Some x.bytes) → StopsIn cells part p.0 row.job.node.0 old new → ClusterStands cells b2.nodes new b2.cut board b2.log
     refused_path cause b2 new part lasting legal turns rule e2 n2 c2 out b =
+        let w = going1 in
         subst (λ (z : Log × (Bool × ℕ)). ClusterStands cells z.1.1 new z.1.0 board z.0) (λ i. (sym e2 i, (sym c2 i, sym n2 i)))
-        (stopped_stands cells b1.nodes b1.cut board (shown at (Refused cause) ∷ met) old new p row.job part lasting
-        (refused_stands cells b1.nodes b1.cut board met old at cause legal turns rule (broken_turn cause)
-        (not_publish (printed met) (before_start at (printed b1.log)) at n row.job.version.0 (Some begun1.0) (words.begun ∙ begun1.1) starts1)
-        (not_commit (printed met) (before_start at (printed b1.log)) at n row.job.version.0 (Some begun1.0) (words.begun ∙ begun1.1) starts1) (met_stands k.call at olds news))
-        node1 lane1.node primary_met (refused_job cause (last_job false n met) ∙ (words.job n ∙ runs_at b1.nodes b1.log row runs1 lane1)) (out_met part out) b
-        (λ a flies. (without_some at a (copy_in_flight n (newest_version (printed met)) (printed met)) flies).1))
+        (stopped_stands cells b1.nodes b1.cut board (shown row.job.at (Refused cause) ∷ behind_met) old new p row.job part lasting
+        (refused_stands cells b1.nodes b1.cut board behind_met old row.job.at cause legal turns rule (broken_turn w olds news cause)
+        (not_publish (printed behind_met) (before_start row.job.at (printed b1.log)) row.job.at row.job.node.0 row.job.version.0 (Some (begun1 w).0) (begun_met w olds news ∙ (begun1 w).1) (starts1 w))
+        (not_commit (printed behind_met) (before_start row.job.at (printed b1.log)) row.job.at row.job.node.0 row.job.version.0 (Some (begun1 w).0) (begun_met w olds news ∙ (begun1 w).1) (starts1 w)) (met_stands k.call row.job.at olds news))
+        w.source w.lane.node (primary_met w olds news) (job_met w olds news cause) (out_met w olds news part out) b
+        (λ a flies. (without_some row.job.at a (copy_in_flight row.job.node.0 (newest_version (printed behind_met)) (printed behind_met)) flies).1))
 
   -- the files of the job that was stopped are those from before
-  pub refused_files : (now : Run) (new : List (Option (NodePlace D))) (part : Option Part) (b : StopsIn cells part p.0 n old new) → r.rest.jobs ≡ jobs_in old → now.rest.jobs ≡ jobs_in new → files_at n now ≡ files_at n r
+  pub refused_files : (now : Run) (new : List (Option (NodePlace D))) (part : Option Part) (b : StopsIn cells part p.0 row.job.node.0 old new) → r.rest.jobs ≡ jobs_in old → now.rest.jobs ≡ jobs_in new → files_at row.job.node.0 now ≡ files_at row.job.node.0 r
   refused_files now new part b before after =
       let both = k.call.all (ap (λ (x : Run). x.ended) k.call.view ∙ k.call.running) in
-      let is : job_at n b0.log ≡ Some row.job = runs_at b0.nodes b0.log row (subst (λ (l : Log). JobRuns l row) (sym (ap (λ (x : Run). x.log) k.call.view)) k.runs) k.lane in
-      let h = job_here cells both.1.source b0.log n row.job b.both.replica.parts is (there_both cells b0.log b0.nodes n old both.0 both.1 b.both.replica.parts b.both.replica.held k.lane.node b.both.replica.there).1 in
-      stopped_files r now old new before after cells p.0 n part b h.point h.runs
+      let is : job_at row.job.node.0 b0.log ≡ Some row.job = runs_at b0.nodes b0.log row going0.runs going0.lane in
+      let h = job_here cells both.1.source b0.log row.job.node.0 row.job b.both.replica.parts is (there_both cells b0.log b0.nodes row.job.node.0 old both.0 both.1 b.both.replica.parts b.both.replica.held going0.lane.node b.both.replica.there).1 in
+      stopped_files r now old new before after cells p.0 row.job.node.0 part b h.point h.runs
       (subst (λ (o : Option PointJob). IfSome o (λ j. StopsAt cells part j b.both.primary.parts b.primary b.both.replica.parts b.replica)) h.going b.stops)
 
 -- ---- a copy that starts

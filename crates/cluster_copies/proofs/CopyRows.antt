@@ -1,5 +1,5 @@
 -- How far a line has come that copies or settles.
-use Rattle.std.proofs.Common.{◌≡◌, ◌≢◌, ◌≤◌, ◌<◌, ◌&&◌, ◌||◌, ◌==◌, ℕ, Bool, true, false, true≢false, [], ◌∷◌, Some, None, Option, Ok, max, refl, ap, ◌∙◌, sym, subst, if◌then◌else◌, arith, length}
+use Rattle.std.proofs.Common.{◌≡◌, ◌≢◌, ◌≤◌, ◌<◌, ◌&&◌, ◌||◌, ◌==◌, ℕ, List, Bool, true, false, true≢false, [], ◌∷◌, Some, None, Option, Ok, max, refl, ap, ◌∙◌, sym, subst, if◌then◌else◌, arith, length}
 use Rattle.std.specs.Prelude.{not, nat_lt, IfSome, IsSomeAnd}
 use Rattle.std.proofs.lemmas.Bool.{eqb-true, eq-eqb, ltb-false}
 use Rattle.nrt_base.specs.declared.numbers.At.{At}
@@ -32,9 +32,12 @@ use Rattle.script_serving.specs.declared.script.LineCommand.TheVariants.{Copy}
 use Rattle.script_serving.specs.Refusals.{refusal}
 use Rattle.cluster_nodes.specs.declared.tasks.CopyTask.{CopyTask}
 use Rattle.cluster_nodes.specs.declared.tasks.FileTask.{FileTask}
+use Rattle.copy_state.specs.declared.meta.FileMetaData.{FileMetaData}
+use Rattle.copy_state.specs.Meta.{IsMetaOf}
 use Rattle.copy_job.specs.declared.copying.Part.{Part}
 use Rattle.link_model.specs.declared.fate.Fate.{Fate}
 use Rattle.cluster_state.specs.DueFaults.{ArrivesBy, fate_cause}
+use Rattle.cluster_state.specs.FilesOut.{file_out}
 use Rattle.cluster_state.specs.GivesUp.{met_log}
 use Rattle.cluster_state.specs.Run.{Run, files_at, IsNow}
 use Rattle.std.proofs.lemmas.Bool.Decides.{nat_tests}
@@ -331,7 +334,15 @@ module _ (row : JobRow) (old mid new : Run) (same : mid ≡ old) where
   runs_arrives file (Some log) b turn going stops takes = absurd (true≢false (sym stops.0 ∙ going))
   runs_arrives file None b turn going stops takes = runs_takes file turn takes
 
--- a part that came is taken, or the disk of its node failed
+-- a part that came is that of the file which is out, with its metadata
+pub part_out : (row : JobRow) (old mid : Run) (file : FileTask) (part : Part) → mid ≡ old → ArrivesBy file (Ok part) → file_out row.job.at row.job.node.0 row.job.number file.name old.log ≡ Some file.source
+    → file_out row.job.at row.job.node.0 row.job.number part.name mid.log ≡ Some part.bytes
+part_out row old mid file part same arrives out = (λ i. file_out row.job.at row.job.node.0 row.job.number (arrives.1.name_is i) (same i).log) ∙ (out ∙ ap (λ (x : List ℕ). Some x) (sym arrives.1.bytes_are))
+
+pub part_meta : (file : FileTask) (part : Part) → ArrivesBy file (Ok part) → IsMetaOf file.source file.meta → IsMetaOf part.bytes part.meta
+part_meta file part arrives is = subst (λ (z : List ℕ × FileMetaData). IsMetaOf z.0 z.1) (λ i. (sym arrives.1.bytes_are i, sym arrives.1.meta_is i)) is
+
+-- it is taken, or the disk of its node failed
 pub part_taken : (row : JobRow) (old new : Run) (file : FileTask) (part : Part) → ArrivesBy file (Ok part) → IsNow old new (met_log row.job.at old new) → BringsFile part.name (files_at row.job.node.0 old) (files_at row.job.node.0 new)
     → JobTakes row.job file old new (Work tt)
 part_taken row old new file part arrives now brings =

@@ -5,7 +5,6 @@ use Rattle.disk_model.specs.Disk.{Name, Cells}
 use Rattle.disk_model.specs.Faults.{Plans}
 use Rattle.copy_job.specs.declared.copying.Part.{Part}
 use Rattle.history_tables.specs.declared.jobs.JobRow.{JobRow}
-use Rattle.history_book.specs.Log.{Log}
 use Rattle.nrt_base.specs.declared.numbers.At.{At}
 use Rattle.nrt_base.specs.declared.numbers.NodeNo.{NodeNo}
 use Rattle.history_rules.specs.declared.cause.Cause.{Cause}
@@ -29,7 +28,6 @@ use Rattle.cluster_state.specs.Calls.{IsRefusedTurn}
 use Rattle.cluster_state.specs.declared.turn.Turn.{Turn}
 use Rattle.cluster_state.specs.declared.turn.Turn.TheVariants.{Work, Done, Busy}
 use Rattle.cluster_state.specs.CallsLeft.{stage_calls, place_calls, calls_in}
-use Rattle.cluster_state.specs.Copies.{JobRuns}
 use Rattle.cluster_state.specs.JobsIn.{place_files, jobs_in}
 use Rattle.cluster_state.specs.MergedCopies.{told_copy, place_copies, copies_in}
 use Rattle.cluster_state.specs.Sizes.{sizes_in}
@@ -37,7 +35,7 @@ use Rattle.cluster_state.proofs.FileJobs.{job_here, runs_at}
 use Rattle.cluster_state.proofs.JobsLeft.{files_are, files_same}
 use Rattle.cluster_state.proofs.KeptOthers.{told_beside, told_both, told_apart, told_one, AllTell, TellsButJob, all_tell, all_kept, but_files}
 use Rattle.cluster_state.proofs.RestKept.{place_sizes}
-use Rattle.cluster_copies.proofs.Calls.{JobCall, refused_files}
+use Rattle.cluster_copies.proofs.Calls.{JobCall, going0, refused_files}
 use Rattle.cluster_copies.proofs.PartPaths.{there_both}
 
 -- ---- over places
@@ -132,8 +130,8 @@ module _ {D : Type 0} {cells : D → Cells} {r : Run} {b0 b1 : Sheet} {old : Lis
   point_here : (at : IsReplicaAt old n) → (j : PointJob) × (running_point at.parts.job ≡ Some j)
   point_here at =
       let both = k.call.all (ap (λ (x : Run). x.ended) k.call.view ∙ k.call.running) in
-      let is_there = runs_at b0.nodes b0.log row (subst (λ (l : Log). JobRuns l row) (sym (ap (λ (x : Run). x.log) k.call.view)) k.runs) k.lane in
-      let h = job_here cells both.1.source b0.log n row.job at.parts is_there (there_both cells b0.log b0.nodes n old both.0 both.1 at.parts at.held k.lane.node at.there).1 in
+      let is_there = runs_at b0.nodes b0.log row (going0 k).runs (going0 k).lane in
+      let h = job_here cells both.1.source b0.log n row.job at.parts is_there (there_both cells b0.log b0.nodes n old both.0 both.1 at.parts at.held (going0 k).lane.node at.there).1 in
       (h.point, h.going)
 
   -- it was stopped

@@ -11,6 +11,7 @@ mod HandPaths
 mod Handing
 mod JobEnds
 mod JobMerges
+mod JobWays
 mod KeptJobs
 mod Leaving
 mod MetLines

@@ -23,9 +23,10 @@ ghost use Rattle.cluster_state.specs.Calls.{LineRefused};
 ghost use Rattle.cluster_state.specs.CopyCalls.{IsBeingCopied, IsNotBeingCopied, CopyStarts, CopyStartsWhen, IsSourceFor, IsOpenJob, standing_of, MayEnd, TellsEnd, stopped_log, Stops, RunsOn, JobGoesOn, JobSteps, JobTakes, PartArrives};
 
 use crate::copies::{begin_copy, note_copied};
-use crate::transfers::{go_on, refuse_part, starts_as_copy, take_part};
-use cluster_nodes::{CopyTask, FileTask, Went};
-use cluster_state::{ClusterState, Standing, Turn, refuse_turn};
+use crate::met::{must_be_planned, note_disk_failed};
+use crate::transfers::{go_on, refuse_part, source_of, starts_as_copy};
+use cluster_nodes::{CopyTask, FileTask, Went, files_last, take_in};
+use cluster_state::{ClusterState, Standing, Turn, met_before, refuse_turn, show_met};
 use copy_job::{JobFault, Part};
 use disk_model::FaultDir;
 use history_book::{Book, JobRow};
@@ -256,15 +257,29 @@ pub fn copy_arrived<D: FaultDir + Drop>(
     if is_stopped(state, row)? {
         return Ok(Turn::Done);
     }
-    match arrived {
-        Ok(part) => {
-            match take_part(alloc, state, row, part)? {
-                Went::Done(()) => Ok(Turn::Work(())),
-                Went::Failed => Ok(Turn::Done),
-            }
-        }
+    let part = match arrived {
+        Ok(part) => part,
         Err(fault) => {
             refuse_part(alloc, state, row, file, fault)?;
+            return Ok(Turn::Done);
+        }
+    };
+    files_last();
+    let p = source_of(state, row);
+    state.ended = true;
+    let before = met_before(alloc, &mut state.ledger, &state.places, 2)?;
+    let met = before.as_slice();
+    let taken = take_in(alloc, &mut state.places, p, row.job.node, part)?;
+    must_be_planned(state.ledger.book(), met, &state.places)?;
+    match taken {
+        Went::Done(()) => {
+            show_met(&mut state.ledger, row.job.at, met, &state.places);
+            state.ended = false;
+            Ok(Turn::Work(()))
+        }
+        Went::Failed => {
+            note_disk_failed(&mut state.ledger, row, row.job.node, met, &state.places)?;
+            state.ended = false;
             Ok(Turn::Done)
         }
     }

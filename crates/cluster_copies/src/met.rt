@@ -1,8 +1,8 @@
 //! Faults of disks that copies meet, and the entries behind them.
 
-ghost use Rattle.std.specs.Prelude.{◌≡◌, ◌≢◌, ◌≤◌, ◌<◌, ◌+◌, ◌*◌, ◌∷◌, ◌⊎◌, false, true, map, length, None, Some, Err, IsSomeAnd, OnOk};
+ghost use Rattle.std.specs.Prelude.{◌≡◌, ◌≢◌, ◌≤◌, ◌<◌, ◌+◌, ◌*◌, ◌∷◌, ◌⊎◌, false, true, map, length, None, Some, Err, IsSomeAnd, IfOk, OnOk, OnErr};
 ghost use Rattle.history_rules.specs.Nodes.{IsNode, is_running, version_of, newest_version};
-ghost use Rattle.history_rules.specs.Lines.{start_entry, before_start, highest_switched, is_answered};
+ghost use Rattle.history_rules.specs.Lines.{start_entry, before_start, highest_switched};
 ghost use Rattle.history_rules.specs.Commits.{is_passed};
 ghost use Rattle.history_rules.specs.Rules.{IsLineWhole, fetches_at};
 ghost use Rattle.history_rules.specs.Legal.{KeepsRule, IsLegalPast};
@@ -13,13 +13,14 @@ ghost use Rattle.history_book.specs.Told.{IsSo};
 ghost use Rattle.history_book.specs.Jobs.{IsInside};
 ghost use Rattle.merge_tasks.specs.Fates.{fate_due};
 ghost use Rattle.cluster_state.specs.Copies.{JobRuns, ended_log};
-ghost use Rattle.cluster_state.specs.DueFaults.{ArrivesBy, fate_cause, with_due};
-ghost use Rattle.cluster_state.specs.Met.{ArePlanned, met_in, with_met, has_risen as has_risen_at};
+ghost use Rattle.cluster_state.specs.DueFaults.{ArrivesBy, fate_cause};
+ghost use Rattle.cluster_state.specs.Met.{ArePlanned, met_in, has_risen as has_risen_at};
+ghost use Rattle.cluster_copies.specs.Going.{met_since, CanTell, RefusesForDisk, HandsOut};
 
 use crate::transfers::{must_be_whole, show_end};
 use bytes::Bytes;
 use cluster_nodes::{FileTask, NodePlace};
-use cluster_state::{are_planned, comes_whole, has_risen, show_due, show_met};
+use cluster_state::{are_bytes, are_planned, comes_whole, has_risen, show_due, show_met};
 use copy_job::JobFault;
 use copy_state::FileMetaData;
 use disk_model::FaultDir;
@@ -27,8 +28,8 @@ use file_names::FileName;
 use history_book::{Book, Fate, Inner, Job, JobRow};
 use history_rules::{Cause, Event};
 use merge_tasks::Ledger;
-use nrt_base::{At, NoMemory, NodeNo, Version};
-use std::alloc::AllocError;
+use nrt_base::{At, NoMemory, NodeNo, Share, Version};
+use std::alloc::{AllocError, Global};
 
 /// Appends the faults that were met, and the beginning of a line's job.
 pub(crate) fn note_job<D: FaultDir + Drop>(
@@ -40,25 +41,19 @@ pub(crate) fn note_job<D: FaultDir + Drop>(
     before: &[(u64, u64)],
     places: &Vec<Option<NodePlace<D>>>,
 )
-    requires room { 2 * length before.now + 1 ≤ ledger.old.room }
+    requires tells { CanTell D.planned at 1 before.now places.now.items ledger.old }
     requires jobs { 1 ≤ ledger.old.jobs }
-    requires count { length before.now ≡ ledger.old.nodes }
-    requires places { length places.now.items ≡ ledger.old.nodes }
-    requires few { length before.now ≤ 255 }
-    requires planned { ArePlanned 1 before.now (map (met_in D.planned) places.now.items)
-        (printed ledger.old.log) }
-    requires unanswered { is_answered at (printed ledger.old.log) ≡ false }
     requires inside { IsInside ledger.old.nodes
-        (with_met false at 1 before.now (map (met_in D.planned) places.now.items) ledger.old.log)
+        (met_since D.planned at before.now places.now.items ledger.old.log)
         (Inner.JobBegun at.line n job (Some v) (Some at)) }
     ensures log { ledger.new.log ≡ kept (Inner.JobBegun at.line n job (Some v) (Some at))
-        ∷ with_met false at 1 before.now (map (met_in D.planned) places.now.items) ledger.old.log }
+        ∷ met_since D.planned at before.now places.now.items ledger.old.log }
     ensures nodes { ledger.new.nodes ≡ ledger.old.nodes }
     ensures cut { ledger.new.cut ≡ ledger.old.cut }
-    ensures legal { IsLegalPast ledger.old.nodes (printed (with_met false at 1 before.now
-        (map (met_in D.planned) places.now.items) ledger.old.log)) }
-    ensures turns { AreInTurn (printed (with_met false at 1 before.now
-        (map (met_in D.planned) places.now.items) ledger.old.log)) }
+    ensures legal { IsLegalPast ledger.old.nodes (printed (met_since D.planned at before.now
+        places.now.items ledger.old.log)) }
+    ensures turns { AreInTurn (printed (met_since D.planned at before.now places.now.items
+        ledger.old.log)) }
 {
     show_met(ledger, at, before, places);
     ledger.book().is_legal();
@@ -80,28 +75,22 @@ pub(crate) fn note_copying<D: FaultDir + Drop>(
     before: &[(u64, u64)],
     places: &Vec<Option<NodePlace<D>>>,
 )
-    requires room { 2 * length before.now + 2 ≤ ledger.old.room }
+    requires tells { CanTell D.planned at 2 before.now places.now.items ledger.old }
     requires line { 1 ≤ ledger.old.places }
-    requires count { length before.now ≡ ledger.old.nodes }
-    requires places { length places.now.items ≡ ledger.old.nodes }
-    requires few { length before.now ≤ 255 }
-    requires planned { ArePlanned 1 before.now (map (met_in D.planned) places.now.items)
-        (printed ledger.old.log) }
-    requires unanswered { is_answered at (printed ledger.old.log) ≡ false }
-    requires rule { KeepsRule ledger.old.nodes (printed (with_met false at 1 before.now
-        (map (met_in D.planned) places.now.items) ledger.old.log)) at (Event.Copying n v) }
-    requires turn { InTurn (printed (with_met false at 1 before.now
-        (map (met_in D.planned) places.now.items) ledger.old.log)) at (Event.Copying n v) }
+    requires rule { KeepsRule ledger.old.nodes (printed (met_since D.planned at before.now
+        places.now.items ledger.old.log)) at (Event.Copying n v) }
+    requires turn { InTurn (printed (met_since D.planned at before.now places.now.items
+        ledger.old.log)) at (Event.Copying n v) }
     ensures log { ledger.new.log ≡ shown at (Event.Copying n v)
-        ∷ with_met false at 1 before.now (map (met_in D.planned) places.now.items) ledger.old.log }
+        ∷ met_since D.planned at before.now places.now.items ledger.old.log }
     ensures nodes { ledger.new.nodes ≡ ledger.old.nodes }
     ensures cut { ledger.new.cut ≡ ledger.old.cut }
     ensures room { 1 ≤ ledger.new.room }
     ensures jobs { ledger.new.jobs ≡ ledger.old.jobs }
-    ensures legal { IsLegalPast ledger.old.nodes (printed (with_met false at 1 before.now
-        (map (met_in D.planned) places.now.items) ledger.old.log)) }
-    ensures turns { AreInTurn (printed (with_met false at 1 before.now
-        (map (met_in D.planned) places.now.items) ledger.old.log)) }
+    ensures legal { IsLegalPast ledger.old.nodes (printed (met_since D.planned at before.now
+        places.now.items ledger.old.log)) }
+    ensures turns { AreInTurn (printed (met_since D.planned at before.now places.now.items
+        ledger.old.log)) }
 {
     show_met(ledger, at, before, places);
     ledger.show(at, Event::Copying { n, v });
@@ -115,28 +104,22 @@ pub(crate) fn note_failed<D: FaultDir + Drop>(
     before: &[(u64, u64)],
     places: &Vec<Option<NodePlace<D>>>,
 )
-    requires room { 2 * length before.now + 1 ≤ ledger.old.room }
-    requires count { length before.now ≡ ledger.old.nodes }
-    requires places { length places.now.items ≡ ledger.old.nodes }
-    requires few { length before.now ≤ 255 }
-    requires planned { ArePlanned 1 before.now (map (met_in D.planned) places.now.items)
-        (printed ledger.old.log) }
-    requires unanswered { is_answered at (printed ledger.old.log) ≡ false }
-    requires rule { KeepsRule ledger.old.nodes (printed (with_met false at 1 before.now
-        (map (met_in D.planned) places.now.items) ledger.old.log)) at (Event.Refused cause) }
-    requires turn { InTurn (printed (with_met false at 1 before.now
-        (map (met_in D.planned) places.now.items) ledger.old.log)) at (Event.Refused cause) }
-    requires told { IsSo (with_met false at 1 before.now (map (met_in D.planned) places.now.items)
-        ledger.old.log) at (Event.Refused cause) }
+    requires tells { CanTell D.planned at 1 before.now places.now.items ledger.old }
+    requires rule { KeepsRule ledger.old.nodes (printed (met_since D.planned at before.now
+        places.now.items ledger.old.log)) at (Event.Refused cause) }
+    requires turn { InTurn (printed (met_since D.planned at before.now places.now.items
+        ledger.old.log)) at (Event.Refused cause) }
+    requires told { IsSo (met_since D.planned at before.now places.now.items ledger.old.log) at
+        (Event.Refused cause) }
     ensures log { ledger.new.log ≡ shown at (Event.Refused cause)
-        ∷ with_met false at 1 before.now (map (met_in D.planned) places.now.items) ledger.old.log }
+        ∷ met_since D.planned at before.now places.now.items ledger.old.log }
     ensures nodes { ledger.new.nodes ≡ ledger.old.nodes }
     ensures cut { ledger.new.cut ≡ ledger.old.cut }
     ensures room { ledger.old.room ≤ ledger.new.room + 2 * length before.now + 1 }
-    ensures legal { IsLegalPast ledger.old.nodes (printed (with_met false at 1 before.now
-        (map (met_in D.planned) places.now.items) ledger.old.log)) }
-    ensures turns { AreInTurn (printed (with_met false at 1 before.now
-        (map (met_in D.planned) places.now.items) ledger.old.log)) }
+    ensures legal { IsLegalPast ledger.old.nodes (printed (met_since D.planned at before.now
+        places.now.items ledger.old.log)) }
+    ensures turns { AreInTurn (printed (met_since D.planned at before.now places.now.items
+        ledger.old.log)) }
 {
     show_met(ledger, at, before, places);
     ledger.show(at, Event::Refused { cause });
@@ -184,13 +167,7 @@ pub(crate) fn note_ended<D: FaultDir + Drop>(
     before: &[(u64, u64)],
     places: &Vec<Option<NodePlace<D>>>,
 )
-    requires room { 2 * length before.now + 3 ≤ ledger.old.room }
-    requires count { length before.now ≡ ledger.old.nodes }
-    requires places { length places.now.items ≡ ledger.old.nodes }
-    requires few { length before.now ≤ 255 }
-    requires planned { ArePlanned 1 before.now (map (met_in D.planned) places.now.items)
-        (printed ledger.old.log) }
-    requires unanswered { is_answered row.job.at (printed ledger.old.log) ≡ false }
+    requires tells { CanTell D.planned row.job.at 3 before.now places.now.items ledger.old }
     requires runs { JobRuns ledger.old.log row }
     requires line { open_line row.job.at (printed ledger.old.log) ≢ None }
     requires below { version_of row.job.node.0 (printed ledger.old.log)
@@ -198,9 +175,9 @@ pub(crate) fn note_ended<D: FaultDir + Drop>(
     requires latest { is_passed row.job.node.0 row.job.version.0 (printed ledger.old.log) ≡ false }
     requires whole { IsLineWhole ledger.old.nodes (printed ledger.old.log) row.job.at }
     requires ordered { highest_switched row.job.at (printed ledger.old.log) < row.job.node.0 }
-    ensures log { ledger.new.log
-        ≡ ended_log row.job (start_entry row.job.at (printed ledger.old.log)) (with_met false
-        row.job.at 1 before.now (map (met_in D.planned) places.now.items) ledger.old.log) }
+    ensures log { ledger.new.log ≡ ended_log row.job (start_entry row.job.at (printed
+        ledger.old.log)) (met_since D.planned row.job.at before.now places.now.items
+        ledger.old.log) }
     ensures nodes { ledger.new.nodes ≡ ledger.old.nodes }
     ensures cut { ledger.new.cut ≡ ledger.old.cut }
 {
@@ -216,30 +193,22 @@ pub(crate) fn note_refused<D: FaultDir + Drop>(
     before: &[(u64, u64)],
     places: &Vec<Option<NodePlace<D>>>,
 )
-    requires room { 2 * length before.now + 2 ≤ ledger.old.room }
-    requires count { length before.now ≡ ledger.old.nodes }
-    requires places { length places.now.items ≡ ledger.old.nodes }
-    requires few { length before.now ≤ 255 }
-    requires planned { ArePlanned 1 before.now (map (met_in D.planned) places.now.items)
-        (printed ledger.old.log) }
-    requires unanswered { is_answered row.job.at (printed ledger.old.log) ≡ false }
-    requires rule { KeepsRule ledger.old.nodes (printed (with_met false row.job.at 1 before.now
-        (map (met_in D.planned) places.now.items) ledger.old.log)) row.job.at
-        (Event.Refused cause) }
-    requires turn { InTurn (printed (with_met false row.job.at 1 before.now
-        (map (met_in D.planned) places.now.items) ledger.old.log)) row.job.at
-        (Event.Refused cause) }
-    requires told { IsSo (with_met false row.job.at 1 before.now (map (met_in D.planned)
-        places.now.items) ledger.old.log) row.job.at (Event.Refused cause) }
-    ensures log { ledger.new.log ≡ kept (Inner.JobEnd row.job.at.line row.job.node row.job.number)
-        ∷ shown row.job.at (Event.Refused cause) ∷ with_met false row.job.at 1 before.now
-        (map (met_in D.planned) places.now.items) ledger.old.log }
+    requires tells { CanTell D.planned row.job.at 2 before.now places.now.items ledger.old }
+    requires rule { KeepsRule ledger.old.nodes (printed (met_since D.planned row.job.at before.now
+        places.now.items ledger.old.log)) row.job.at (Event.Refused cause) }
+    requires turn { InTurn (printed (met_since D.planned row.job.at before.now places.now.items
+        ledger.old.log)) row.job.at (Event.Refused cause) }
+    requires told { IsSo (met_since D.planned row.job.at before.now places.now.items ledger.old.log)
+        row.job.at (Event.Refused cause) }
+    ensures log { ledger.new.log ≡ kept (Inner.JobEnd row.job.at.line row.job.node row.job.number) ∷
+        shown row.job.at (Event.Refused cause) ∷ met_since D.planned row.job.at before.now
+        places.now.items ledger.old.log }
     ensures nodes { ledger.new.nodes ≡ ledger.old.nodes }
     ensures cut { ledger.new.cut ≡ ledger.old.cut }
-    ensures legal { IsLegalPast ledger.old.nodes (printed (with_met false row.job.at 1 before.now
-        (map (met_in D.planned) places.now.items) ledger.old.log)) }
-    ensures turns { AreInTurn (printed (with_met false row.job.at 1 before.now
-        (map (met_in D.planned) places.now.items) ledger.old.log)) }
+    ensures legal { IsLegalPast ledger.old.nodes (printed (met_since D.planned row.job.at before.now
+        places.now.items ledger.old.log)) }
+    ensures turns { AreInTurn (printed (met_since D.planned row.job.at before.now places.now.items
+        ledger.old.log)) }
 {
     let Job {
         at,
@@ -253,6 +222,32 @@ pub(crate) fn note_refused<D: FaultDir + Drop>(
         node,
         job,
     });
+}
+
+/// Appends the faults that were met, that the line of a job is refused for the disk of this node, and that the job has ended. The disk met one of
+/// them, as a call of it failed.
+pub(crate) fn note_disk_failed<D: FaultDir + Drop>(
+    ledger: &mut Ledger,
+    row: JobRow,
+    n: NodeNo,
+    before: &[(u64, u64)],
+    places: &Vec<Option<NodePlace<D>>>,
+) -> Result<(), NoMemory>
+    requires tells { CanTell D.planned row.job.at 2 before.now places.now.items ledger.old }
+    requires rule { has_risen_at n.0 1 before.now (map (met_in D.planned) places.now.items) ≡ true
+        → KeepsRule ledger.old.nodes (printed (met_since D.planned row.job.at before.now
+        places.now.items ledger.old.log)) row.job.at (Event.Refused Cause.DiskFault) }
+    requires turn { InTurn (printed (met_since D.planned row.job.at before.now places.now.items
+        ledger.old.log)) row.job.at (Event.Refused Cause.DiskFault) }
+    ensures ok { OnOk result (RefusesForDisk D.planned row n before.now places.now.items ledger.old
+        ledger.new) }
+    ensures err { OnErr result (ledger.new ≡ ledger.old) }
+    ensures nodes { ledger.new.nodes ≡ ledger.old.nodes }
+    ensures cut { ledger.new.cut ≡ ledger.old.cut }
+{
+    must_have_risen(n, before, places)?;
+    note_refused(ledger, row, Cause::DiskFault, before, places);
+    Ok(())
 }
 
 /// Why a line is refused for what arrived of a file, which is not all of it.
@@ -302,31 +297,27 @@ pub(crate) fn must_be_spared(ledger: &Ledger, row: JobRow) -> Result<(), NoMemor
     Ok(())
 }
 
-/// Appends the faults that were met, and that a file was handed out to a job, behind the faults that this meets. What becomes of it.
+/// Appends the faults that were met, and that a file was handed out to a job, behind the faults that this meets: what its lane carries, and
+/// what becomes of it.
 pub(crate) fn note_file<D: FaultDir + Drop>(
+    alloc: Global,
     ledger: &mut Ledger,
     row: JobRow,
-    name: FileName,
+    file: (FileName, FileMetaData),
     source: Bytes,
     before: &[(u64, u64)],
     places: &Vec<Option<NodePlace<D>>>,
-) -> Fate
-    requires room { 2 * length before.now + 3 ≤ ledger.old.room }
-    requires count { length before.now ≡ ledger.old.nodes }
-    requires places { length places.now.items ≡ ledger.old.nodes }
-    requires few { length before.now ≤ 255 }
-    requires planned { ArePlanned 1 before.now (map (met_in D.planned) places.now.items)
-        (printed ledger.old.log) }
-    requires unanswered { is_answered row.job.at (printed ledger.old.log) ≡ false }
+) -> Result<FileTask, NoMemory>
+    requires tells { CanTell D.planned row.job.at 3 before.now places.now.items ledger.old }
     requires node { IsNode ledger.old.nodes row.job.node.0 }
-    requires fetched { fetches_at ledger.old.nodes row.job.at (printed (with_met false row.job.at 1
-        before.now (map (met_in D.planned) places.now.items) ledger.old.log)) row.job.node.0 ≡ true }
+    requires line { open_line row.job.at (printed ledger.old.log) ≢ None }
+    requires fetched { fetches_at ledger.old.nodes row.job.at (printed (met_since D.planned
+        row.job.at before.now places.now.items ledger.old.log)) row.job.node.0 ≡ true }
     requires alive { is_running row.job.node.0 (printed ledger.old.log) ≡ true }
-    ensures fate { result ≡ fate_due row.job.node.0 (with_met false row.job.at 1 before.now
-        (map (met_in D.planned) places.now.items) ledger.old.log) }
-    ensures log { ledger.new.log ≡ kept (Inner.FileOut row.job.at.line row.job.node row.job.number
-        name source result (Some row.job.at)) ∷ with_due false row.job.at row.job.node.0 (with_met
-        false row.job.at 1 before.now (map (met_in D.planned) places.now.items) ledger.old.log) }
+    ensures ok { IfOk result (HandsOut D.planned row file before.now places.now.items ledger.old
+        ledger.new) }
+    ensures source { IfOk result (λ task. task.source ≡ source) }
+    ensures err { OnErr result (ledger.new ≡ ledger.old) }
     ensures nodes { ledger.new.nodes ≡ ledger.old.nodes }
     ensures cut { ledger.new.cut ≡ ledger.old.cut }
 {
@@ -336,16 +327,24 @@ pub(crate) fn note_file<D: FaultDir + Drop>(
         number: job,
         ..
     } = row.job;
+    are_bytes(source.as_slice());
+    let copy = source.share(alloc)?;
+    must_be_spared(ledger, row)?;
     show_met(ledger, at, before, places);
     let fate = show_due(ledger, false, at, node);
     ledger.keep(Inner::FileOut {
         line: at.line,
         node,
         job,
-        name,
-        source,
+        name: file.0,
+        source: copy,
         fate,
         by: Some(at),
     });
-    fate
+    Ok(FileTask {
+        name: file.0,
+        source,
+        meta: file.1,
+        fate,
+    })
 }

@@ -1,36 +1,36 @@
 //! Jobs that copy the primary's newest point to replicas: how they go on, file by file, and end.
 
-ghost use Rattle.std.specs.Prelude.{◌≡◌, ◌≢◌, ◌≤◌, ◌<◌, false, None, Some, Err, OnOk, OnErr, IfOk, ⊤};
-ghost use Rattle.copy_state.specs.Meta.{IsMetaOf};
-ghost use Rattle.history_rules.specs.Nodes.{version_of, newest_version, IsNode, primary_of};
+ghost use Rattle.std.specs.Prelude.{◌≡◌, ◌≢◌, ◌≤◌, ◌<◌, false, None, Err, OnOk, OnErr, IfOk};
+ghost use Rattle.history_rules.specs.Nodes.{version_of, newest_version};
 ghost use Rattle.history_rules.specs.Lines.{start_entry, before_start, highest_switched};
 ghost use Rattle.history_rules.specs.Commits.{is_passed};
 ghost use Rattle.history_rules.specs.Rules.{IsLineWhole};
 ghost use Rattle.history_tables.specs.Begins.{open_line};
 ghost use Rattle.history_book.specs.Log.{printed};
+ghost use Rattle.cluster_nodes.specs.JobPlaces.{CanFinish, CanRead, CanStop, FinishesIn, ReadsIn, StopsIn};
 ghost use Rattle.cluster_nodes.specs.Went.{ByWent};
-ghost use Rattle.cluster_state.specs.Copies.{is_copy_start, BringsFile, JobRuns, JobRefused, ended_log, GoesOn};
-ghost use Rattle.cluster_state.specs.GivesUp.{met_log};
-ghost use Rattle.cluster_state.specs.Run.{files_at, IsNow, KeepsRest, IsEnded};
+ghost use Rattle.cluster_state.specs.Copies.{is_copy_start, JobRuns, JobRefused, ended_log, GoesOn};
+ghost use Rattle.cluster_state.specs.Run.{KeepsRest, IsEnded};
 ghost use Rattle.cluster_state.specs.Keeping.{KeepsButFiles};
 ghost use Rattle.cluster_state.specs.DueFaults.{MeetsFate, ArrivesBy, fate_cause};
-ghost use Rattle.cluster_state.specs.FilesOut.{file_out};
+ghost use Rattle.cluster_copies.specs.Going.{IsGoing, HasRoomToTell, met_since, HandsOut, RefusesForDisk};
 
 use crate::met::{
-    cause_of, must_be_next, must_be_planned, must_be_spared, must_have_risen, note_ended,
-    note_file, note_refused,
+    cause_of, must_be_next, must_be_planned, note_disk_failed, note_ended, note_file, note_refused,
 };
 use cluster_nodes::{
-    FileTask, Went, files_last, finish_in, next_in, read_for_in, sourced_stands, stop_job_in,
-    take_in,
+    FileTask, NodePlace, Went, files_last, finish_in, next_in, read_for_in, sourced_stands,
+    stop_job_in,
 };
-use cluster_state::{ClusterState, are_bytes, met_before, show_met};
-use copy_job::{JobFault, Part};
+use cluster_state::{ClusterState, met_before};
+use copy_job::JobFault;
+use copy_state::FileMetaData;
 use disk_model::FaultDir;
+use file_names::FileName;
 use history_book::{Book, Inner, Job, JobRow, Start};
 use history_rules::{Cause, Event};
 use merge_tasks::Ledger;
-use nrt_base::{At, NoMemory, NodeNo, Share};
+use nrt_base::{At, NoMemory, NodeNo};
 use std::alloc::{AllocError, Global};
 
 // Whether an open line started as a copy.
@@ -99,19 +99,103 @@ pub(crate) fn must_be_whole(book: &Book, at: At) -> Result<(), NoMemory>
     }
 }
 
-// The running primary, which is the source of a job that runs.
-fn source_of<D: FaultDir + Drop>(cluster: &ClusterState<D>, row: JobRow) -> NodeNo
+/// The running primary, which is the source of a job that runs, and what is known of the job.
+pub(crate) fn source_of<D: FaultDir + Drop>(cluster: &ClusterState<D>, row: JobRow) -> NodeNo
     requires running { cluster.now.ended ≡ false }
     requires runs { JobRuns cluster.now.log row }
-    ensures is { primary_of (printed cluster.now.log) ≡ Some result }
-    ensures node { IsNode cluster.now.nodes result.0 }
+    requires line { open_line row.job.at (printed cluster.now.log) ≢ None }
+    requires ordered { highest_switched row.job.at (printed cluster.now.log) < row.job.node.0 }
+    ensures { IsGoing row result cluster.now.nodes cluster.now.log }
 {
     let book = cluster.ledger.book();
     book.is_legal();
     book.job_shows(row);
+    book.job_replica(row);
+    book.is_unanswered(row.job.at);
     match cluster.primary() {
         Some(p) => p,
         None => unreachable!(),
+    }
+}
+
+// Lets the node of a job that lacks nothing search the job's point, and notes that the job has ended. Where the node's disk fails the job is
+// stopped, and its line is refused.
+fn finish<D: FaultDir + Drop>(
+    alloc: Global,
+    ledger: &mut Ledger,
+    places: &mut Vec<Option<NodePlace<D>>>,
+    row: JobRow,
+    p: NodeNo,
+    met: &[(u64, u64)],
+) -> Result<Went<()>, NoMemory>
+    requires going { IsGoing row p ledger.old.nodes ledger.old.log }
+    requires room { HasRoomToTell 3 met.now places.old.items ledger.old }
+    requires can { CanFinish D.cells p.0 row.job.node.0 places.old.items }
+    requires below { version_of row.job.node.0 (printed ledger.old.log)
+        < newest_version (before_start row.job.at (printed ledger.old.log)) }
+    requires latest { is_passed row.job.node.0 row.job.version.0 (printed ledger.old.log) ≡ false }
+    ensures went { IfOk result (ByWent
+        (λ done. FinishesIn D.cells p.0 row.job.node.0 places.old.items places.new.items)
+        (StopsIn D.cells None p.0 row.job.node.0 places.old.items places.new.items)) }
+    ensures noted { IfOk result (ByWent (λ done. ledger.new.log ≡ ended_log row.job (start_entry
+        row.job.at (printed ledger.old.log)) (met_since D.planned row.job.at met.now
+        places.new.items ledger.old.log)) (RefusesForDisk D.planned row row.job.node met.now
+        places.new.items ledger.old ledger.new)) }
+    ensures err { OnErr result (ledger.new.log ≡ ledger.old.log) }
+    ensures nodes { ledger.new.nodes ≡ ledger.old.nodes }
+    ensures cut { ledger.new.cut ≡ ledger.old.cut }
+{
+    must_be_whole(ledger.book(), row.job.at)?;
+    let finished = finish_in(alloc, places, p, row.job.node)?;
+    must_be_planned(ledger.book(), met, places)?;
+    match finished {
+        Went::Done(()) => {
+            note_ended(ledger, row, met, places);
+            Ok(Went::Done(()))
+        }
+        Went::Failed => {
+            note_disk_failed(ledger, row, row.job.node, met, places)?;
+            Ok(Went::Failed)
+        }
+    }
+}
+
+// Reads a file for a job at its source, and notes that it is handed out. Where the source's disk fails the job is stopped, and its line is
+// refused.
+fn hand_out<D: FaultDir + Drop>(
+    alloc: Global,
+    ledger: &mut Ledger,
+    places: &mut Vec<Option<NodePlace<D>>>,
+    row: JobRow,
+    p: NodeNo,
+    file: (FileName, FileMetaData),
+    met: &[(u64, u64)],
+) -> Result<Went<FileTask>, NoMemory>
+    requires going { IsGoing row p ledger.old.nodes ledger.old.log }
+    requires room { HasRoomToTell 3 met.now places.old.items ledger.old }
+    requires read { CanRead p.0 file.0 places.old.items }
+    requires stop { CanStop p.0 row.job.node.0 places.old.items }
+    ensures went { IfOk result (ByWent
+        (λ task. ReadsIn D.cells p.0 file.0 task.source places.old.items places.new.items)
+        (StopsIn D.cells None p.0 row.job.node.0 places.old.items places.new.items)) }
+    ensures noted { IfOk result (ByWent
+        (HandsOut D.planned row file met.now places.new.items ledger.old ledger.new)
+        (RefusesForDisk D.planned row p met.now places.new.items ledger.old ledger.new)) }
+    ensures err { OnErr result (ledger.new.log ≡ ledger.old.log) }
+    ensures nodes { ledger.new.nodes ≡ ledger.old.nodes }
+    ensures cut { ledger.new.cut ≡ ledger.old.cut }
+{
+    let read = read_for_in(alloc, places, p, row.job.node, &file.0)?;
+    must_be_planned(ledger.book(), met, places)?;
+    match read {
+        Went::Done(source) => {
+            let task = note_file(alloc, ledger, row, file, source, met, places)?;
+            Ok(Went::Done(task))
+        }
+        Went::Failed => {
+            note_disk_failed(ledger, row, p, met, places)?;
+            Ok(Went::Failed)
+        }
     }
 }
 
@@ -133,141 +217,41 @@ pub fn go_on<D: FaultDir + Drop>(
         (KeepsRest cluster.old cluster.new)) }
     ensures err { OnErr result (IsEnded cluster.old cluster.new) }
 {
-    let book = cluster.ledger.book();
-    book.is_legal();
-    book.job_shows(row);
-    book.job_replica(row);
-    book.is_unanswered(row.job.at);
     files_last();
     sourced_stands();
     let p = source_of(cluster, row);
-    let n = row.job.node;
     cluster.ended = true;
     let before = met_before(alloc, &mut cluster.ledger, &cluster.places, 3)?;
     let met = before.as_slice();
-    match next_in(alloc, &cluster.places, n)? {
+    match next_in(alloc, &cluster.places, row.job.node)? {
         None => {
-            must_be_whole(cluster.ledger.book(), row.job.at)?;
-            let finished = finish_in(alloc, &mut cluster.places, p, n)?;
-            must_be_planned(cluster.ledger.book(), met, &cluster.places)?;
-            match finished {
+            match finish(alloc, &mut cluster.ledger, &mut cluster.places, row, p, met)? {
                 Went::Done(()) => {
-                    note_ended(&mut cluster.ledger, row, met, &cluster.places);
                     cluster.ledger.book().is_legal();
                     cluster.ended = false;
                     Ok(Went::Done(None))
                 }
                 Went::Failed => {
-                    must_have_risen(n, met, &cluster.places)?;
-                    note_refused(
-                        &mut cluster.ledger,
-                        row,
-                        Cause::DiskFault,
-                        met,
-                        &cluster.places,
-                    );
                     cluster.ended = false;
                     Ok(Went::Failed)
                 }
             }
         }
         Some(file) => {
-            let name = file.0;
-            let read = read_for_in(alloc, &mut cluster.places, p, n, &name)?;
-            must_be_planned(cluster.ledger.book(), met, &cluster.places)?;
-            match read {
-                Went::Done(source) => {
-                    are_bytes(source.as_slice());
-                    let copy = source.share(alloc)?;
-                    must_be_spared(&cluster.ledger, row)?;
-                    let fate = note_file(
-                        &mut cluster.ledger,
-                        row,
-                        name,
-                        copy,
-                        met,
-                        &cluster.places,
-                    );
-                    cluster.ended = false;
-                    Ok(Went::Done(Some(FileTask {
-                        name,
-                        source,
-                        meta: file.1,
-                        fate,
-                    })))
-                }
-                Went::Failed => {
-                    must_have_risen(p, met, &cluster.places)?;
-                    note_refused(
-                        &mut cluster.ledger,
-                        row,
-                        Cause::DiskFault,
-                        met,
-                        &cluster.places,
-                    );
-                    cluster.ended = false;
-                    Ok(Went::Failed)
-                }
-            }
-        }
-    }
-}
-
-/// Puts a part into a job that runs. Where the part is no longer missing, nothing changes. Where the node's disk fails the job is stopped, and
-/// its line is refused.
-pub fn take_part<D: FaultDir + Drop>(
-    alloc: Global,
-    cluster: &mut ClusterState<D>,
-    row: JobRow,
-    part: Part,
-) -> Result<Went<()>, NoMemory>
-    requires running { cluster.old.ended ≡ false }
-    requires runs { JobRuns cluster.old.log row }
-    requires line { open_line row.job.at (printed cluster.old.log) ≢ None }
-    requires ordered { highest_switched row.job.at (printed cluster.old.log) < row.job.node.0 }
-    requires out { file_out row.job.at row.job.node.0 row.job.number part.name cluster.old.log
-        ≡ Some part.bytes }
-    requires meta { IsMetaOf part.bytes part.meta }
-    ensures ok { IfOk result (ByWent
-        (λ done. IsNow cluster.old cluster.new (met_log row.job.at cluster.old cluster.new))
-        (JobRefused row.job Cause.DiskFault cluster.old cluster.new)) }
-    ensures has { IfOk result (ByWent (λ done. BringsFile part.name
-        (files_at row.job.node.0 cluster.old) (files_at row.job.node.0 cluster.new)) ⊤) }
-    ensures rest { IfOk result (ByWent
-        (λ done. KeepsButFiles row.job.node.0 cluster.old cluster.new)
-        (KeepsRest cluster.old cluster.new)) }
-    ensures err { OnErr result (IsEnded cluster.old cluster.new) }
-{
-    let book = cluster.ledger.book();
-    book.is_legal();
-    book.job_shows(row);
-    book.job_replica(row);
-    book.is_unanswered(row.job.at);
-    files_last();
-    let p = source_of(cluster, row);
-    let n = row.job.node;
-    cluster.ended = true;
-    let before = met_before(alloc, &mut cluster.ledger, &cluster.places, 2)?;
-    let met = before.as_slice();
-    let taken = take_in(alloc, &mut cluster.places, p, n, part)?;
-    must_be_planned(cluster.ledger.book(), met, &cluster.places)?;
-    match taken {
-        Went::Done(()) => {
-            show_met(&mut cluster.ledger, row.job.at, met, &cluster.places);
-            cluster.ended = false;
-            Ok(Went::Done(()))
-        }
-        Went::Failed => {
-            must_have_risen(n, met, &cluster.places)?;
-            note_refused(
+            let handed = hand_out(
+                alloc,
                 &mut cluster.ledger,
+                &mut cluster.places,
                 row,
-                Cause::DiskFault,
+                p,
+                file,
                 met,
-                &cluster.places,
-            );
+            )?;
             cluster.ended = false;
-            Ok(Went::Failed)
+            match handed {
+                Went::Done(task) => Ok(Went::Done(Some(task))),
+                Went::Failed => Ok(Went::Failed),
+            }
         }
     }
 }
@@ -291,11 +275,6 @@ pub fn refuse_part<D: FaultDir + Drop>(
     ensures rest { OnOk result (KeepsRest cluster.old cluster.new) }
     ensures err { OnErr result (IsEnded cluster.old cluster.new) }
 {
-    let book = cluster.ledger.book();
-    book.is_legal();
-    book.job_shows(row);
-    book.job_replica(row);
-    book.is_unanswered(row.job.at);
     files_last();
     let p = source_of(cluster, row);
     let n = row.job.node;

@@ -6,7 +6,6 @@ ghost use Rattle.history_rules.specs.Lines.{start_entry};
 ghost use Rattle.history_book.specs.Log.{printed};
 ghost use Rattle.script_serving.specs.declared.script.LineCommand.{LineCommand};
 ghost use Rattle.script_serving.specs.declared.script.LineCommand.TheVariants.{Settle};
-ghost use Rattle.cluster_state.specs.DueFaults.{ArrivesBy};
 ghost use Rattle.cluster_site.specs.Sites.{DoesAtSite};
 ghost use Rattle.cluster_state.specs.CopyCalls.{CopiesFor};
 ghost use Rattle.cluster_site.specs.Flights.{WaitsWhere};
@@ -15,7 +14,6 @@ ghost use Rattle.lane_copies.specs.Jobs.{IsCopyingBy, HasFileOut, LeavesJobAt, I
 
 use cluster_nodes::{CopyTask, FileTask, SettleTask};
 use cluster_site::{Site, Turn};
-use copy_job::{JobFault, Part};
 use disk_model::FaultDir;
 use nrt_base::{At, NoMemory};
 use std::alloc::{AllocError, Global};
@@ -40,31 +38,6 @@ pub fn next_file<D: FaultDir + Drop>(
         return Err(AllocError);
     }
     site.copy_next(alloc, at, task)
-}
-
-/// Takes what arrived of a file that was handed out to a job.
-pub fn take_part<D: FaultDir + Drop>(
-    site: &mut Site<D>,
-    alloc: Global,
-    at: At,
-    task: &CopyTask,
-    file: &FileTask,
-    arrived: Result<Part, JobFault>,
-) -> Result<Turn<()>, NoMemory>
-    requires running { site.old.run.ended ≡ false }
-    requires out { HasFileOut at task.now file.now site.old.run.log }
-    requires arrives { ArrivesBy file.now arrived }
-    ensures ok { IfOk result (LeavesJobAt (λ taken. IsCopyingBy at task.now) at task.now
-        site.old.run site.new.run) }
-    ensures err { OnErr result (site.new.run.log ≡ site.old.run.log) }
-    ensures does { (command : LineCommand)
-        → CopiesFor command (start_entry at (printed site.old.run.log))
-        → OnOk result (DoesAtSite command at site.old site.new) }
-{
-    if !site.has_job(at.lane) {
-        return Err(AllocError);
-    }
-    site.copy_arrived(alloc, at, task, file, arrived)
 }
 
 // A copy of what a settle has left.

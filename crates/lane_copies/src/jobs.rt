@@ -5,7 +5,7 @@ ghost use Rattle.cluster_state.specs.DueFaults.{ArrivesBy};
 ghost use Rattle.lane_threads.specs.Seats.{log_seen, IsLaneSeat};
 ghost use Rattle.lane_copies.specs.Jobs.{IsCopyingBy, HasFileOut, IsCopyReplied, StepsJob, TurnsJob};
 
-use crate::calls::{next_file, take_part};
+use crate::calls::next_file;
 use crate::carrying::carry;
 use cluster_nodes::{CopyTask, FileTask};
 use cluster_site::{Gate, Lanes, Site, Turn, enter_site};
@@ -14,6 +14,7 @@ use disk_model::FaultDir;
 use hist_lock::LaneSeat;
 use lane_threads::leave;
 use nrt_base::{At, NoMemory};
+use std::alloc::AllocError;
 use std::sync::Wait;
 
 // Hands out the next file of a job.
@@ -34,7 +35,7 @@ fn hand_out<R: Wait, D: FaultDir + Drop, G: Gate>(
     answer
 }
 
-// Brings back to its job what arrived of a file.
+// Brings back to its job what arrived of a file. That the job has no end is known of each cluster, but not of a value behind a lock.
 fn bring_back<R: Wait, D: FaultDir + Drop, G: Gate>(
     lanes: &Lanes<'_, R, D, G>,
     seat: &mut LaneSeat<Site<D>>,
@@ -50,7 +51,12 @@ fn bring_back<R: Wait, D: FaultDir + Drop, G: Gate>(
         lanes.now.setup.nodes lanes.now.lock.now at task.now seat.old seat.new) }
 {
     let mut held = enter_site(lanes, seat, at)?;
-    let answer = take_part(held.value(), lanes.alloc, at, task, file, arrived);
+    let site = held.value();
+    if !site.has_job(at.lane) {
+        leave(lanes.lock, at.lane, seat, held);
+        return Err(AllocError);
+    }
+    let answer = site.copy_arrived(lanes.alloc, at, task, file, arrived);
     leave(lanes.lock, at.lane, seat, held);
     answer
 }

@@ -1,5 +1,4 @@
-use Rattle.std.proofs.Common.{true, ◌≡◌, ◌≤◌, ◌∙◌, [], ◌∷◌, List, ℕ, false, Some, ap, refl, sym, subst, arith, length, map, true≢false}
-use Rattle.std.proofs.lemmas.List.{length-map}
+use Rattle.std.proofs.Common.{◌≡◌, ◌∙◌, [], ◌∷◌, ℕ, false, Some, ap, refl, sym, subst, arith, map, true≢false}
 use Rattle.nrt_base.specs.declared.numbers.Version.{Version}
 use Rattle.history_rules.specs.declared.cause.Cause.TheVariants.{DiskFault}
 use Rattle.history_rules.specs.declared.entry.Event.TheVariants.{Copying, Refused}
@@ -22,7 +21,7 @@ use Rattle.cluster_state.proofs.MetStands.{on_any, behind, run_behind, met_as_to
 use Rattle.cluster_copies.proofs.CopyPaths.{can_begin, copy_path, copy_turn, copy_begun}
 use Rattle.cluster_copies.proofs.TakingOver.{taken_by}
 use Rattle.cluster_copies.proofs.JobMerges.{begun_stand}
-use Rattle.cluster_copies.proofs.Calls.{as_nodes, met_stands, altered_files, CopyCall, copy_unbegun, copy_starts, copy_primary, copy_behind, copy_older, copy_newest, copy_node, copy_source, copy_rule, copy_fails, copy_fail_turn, no_copy_path}
+use Rattle.cluster_copies.proofs.Calls.{call_of, ledger_room, can_tell, met_stands, altered_files, CopyCall, copy_unbegun, copy_starts, copy_primary, copy_behind, copy_older, copy_newest, copy_node, copy_source, copy_rule, copy_fails, copy_fail_turn, no_copy_path}
 use Rattle.cluster_state.proofs.KeptOthers.{all_kept, but_job}
 use Rattle.cluster_copies.proofs.KeptJobs.{altered_tells, begun_tells}
 use Rattle.cluster_copies.proofs.copies.begin_copy.Goals as goal
@@ -35,131 +34,22 @@ begin_in-requires g c = can_begin g.D.Dir.cells c.args.cluster.now _ _ _ _ c.arg
 
 pub must_be_planned-requires-clause-count : goal.must_be_planned-requires-clause-count
 must_be_planned-requires-clause-count g c =
-    let k : CopyCall g.D.Dir.cells c.args.cluster.now c.cluster.inside.ledger c.met_before.new.ledger c.cluster.inside.places.items c.cluster.inside.tasks c.args.at c.args.p c.args.n (record { 0 = c.newest.result }) = record {
-      call = record {
-        ended = _;
-        left = _;
-        view = c.cluster.view_is;
-        running = c.requires.running;
-        all = c.cluster.invariant;
-        e1 = c.in_ok-before.ensures.log;
-        n1 = c.in_ok-before.ensures.nodes;
-        c1 = c.in_ok-before.ensures.cut;
-      };
-      unbegun = unbegun_of (fresh_of c.book-book.ensures.log c.is_fresh.ensures);
-      node_p = c.requires.source;
-      node = c.requires.node;
-      primary = c.requires.primary;
-      replica = c.requires.replica;
-      behind = c.requires.behind;
-      older = c.requires.older;
-      newest = told_of c.book-book.ensures.log newest_version c.newest.ensures;
-    } in
-    ap (λ (xs : List (ℕ × ℕ)). length xs) (c.as_slice-met.ensures.value ∙ c.in_ok-before.ensures.met) ∙ (length-map c.cluster.inside.places.items (met_in g.D.FaultDir.planned) ∙ as_nodes k.call) ∙ sym c.book.ensures.nodes
+    (ledger_room g.D.Dir.cells g.D.FaultDir.planned c.args.cluster.now c.cluster.inside.ledger c.met_before.new.ledger c.cluster.inside.places.items c.cluster.inside.tasks 2 c.cluster.view_is c.requires.running c.cluster.invariant c.in_ok-before.ensures.nodes c.as_slice-met.ensures.value c.in_ok-before.ensures.met c.in_ok-before.ensures.room c.in_ok-before.ensures.few).count ∙ sym c.book.ensures.nodes
 
 pub must_be_planned-requires-clause-places : goal.must_be_planned-requires-clause-places
 must_be_planned-requires-clause-places g c =
-    let k : CopyCall g.D.Dir.cells c.args.cluster.now c.cluster.inside.ledger c.met_before.new.ledger c.cluster.inside.places.items c.cluster.inside.tasks c.args.at c.args.p c.args.n (record { 0 = c.newest.result }) = record {
-      call = record {
-        ended = _;
-        left = _;
-        view = c.cluster.view_is;
-        running = c.requires.running;
-        all = c.cluster.invariant;
-        e1 = c.in_ok-before.ensures.log;
-        n1 = c.in_ok-before.ensures.nodes;
-        c1 = c.in_ok-before.ensures.cut;
-      };
-      unbegun = unbegun_of (fresh_of c.book-book.ensures.log c.is_fresh.ensures);
-      node_p = c.requires.source;
-      node = c.requires.node;
-      primary = c.requires.primary;
-      replica = c.requires.replica;
-      behind = c.requires.behind;
-      older = c.requires.older;
-      newest = told_of c.book-book.ensures.log newest_version c.newest.ensures;
-    } in
-    c.in_ok-begun.ensures.count ∙ (as_nodes k.call ∙ sym c.book.ensures.nodes)
+    c.in_ok-begun.ensures.count ∙ ((ledger_room g.D.Dir.cells g.D.FaultDir.planned c.args.cluster.now c.cluster.inside.ledger c.met_before.new.ledger c.cluster.inside.places.items c.cluster.inside.tasks 2 c.cluster.view_is c.requires.running c.cluster.invariant c.in_ok-before.ensures.nodes c.as_slice-met.ensures.value c.in_ok-before.ensures.met c.in_ok-before.ensures.room c.in_ok-before.ensures.few).nodes ∙ sym c.book.ensures.nodes)
 
-pub note_copying-requires-clause-room : goal.note_copying-requires-clause-room
-note_copying-requires-clause-room g c =
-    let room = c.in_ok-before.ensures.room in
-    let same = ap (λ (xs : List (ℕ × ℕ)). length xs) c.as_slice-met.ensures.value in
-    omega (arith, room, same)
-
-pub note_copying-requires-clause-count : goal.note_copying-requires-clause-count
-note_copying-requires-clause-count g c =
-    let k : CopyCall g.D.Dir.cells c.args.cluster.now c.cluster.inside.ledger c.met_before.new.ledger c.cluster.inside.places.items c.cluster.inside.tasks c.args.at c.args.p c.args.n (record { 0 = c.newest.result }) = record {
-      call = record {
-        ended = _;
-        left = _;
-        view = c.cluster.view_is;
-        running = c.requires.running;
-        all = c.cluster.invariant;
-        e1 = c.in_ok-before.ensures.log;
-        n1 = c.in_ok-before.ensures.nodes;
-        c1 = c.in_ok-before.ensures.cut;
-      };
-      unbegun = unbegun_of (fresh_of c.book-book.ensures.log c.is_fresh.ensures);
-      node_p = c.requires.source;
-      node = c.requires.node;
-      primary = c.requires.primary;
-      replica = c.requires.replica;
-      behind = c.requires.behind;
-      older = c.requires.older;
-      newest = told_of c.book-book.ensures.log newest_version c.newest.ensures;
-    } in
-    ap (λ (xs : List (ℕ × ℕ)). length xs) (c.as_slice-met.ensures.value ∙ c.in_ok-before.ensures.met) ∙ (length-map c.cluster.inside.places.items (met_in g.D.FaultDir.planned) ∙ as_nodes k.call)
-
-pub note_copying-requires-clause-places : goal.note_copying-requires-clause-places
-note_copying-requires-clause-places g c =
-    let k : CopyCall g.D.Dir.cells c.args.cluster.now c.cluster.inside.ledger c.met_before.new.ledger c.cluster.inside.places.items c.cluster.inside.tasks c.args.at c.args.p c.args.n (record { 0 = c.newest.result }) = record {
-      call = record {
-        ended = _;
-        left = _;
-        view = c.cluster.view_is;
-        running = c.requires.running;
-        all = c.cluster.invariant;
-        e1 = c.in_ok-before.ensures.log;
-        n1 = c.in_ok-before.ensures.nodes;
-        c1 = c.in_ok-before.ensures.cut;
-      };
-      unbegun = unbegun_of (fresh_of c.book-book.ensures.log c.is_fresh.ensures);
-      node_p = c.requires.source;
-      node = c.requires.node;
-      primary = c.requires.primary;
-      replica = c.requires.replica;
-      behind = c.requires.behind;
-      older = c.requires.older;
-      newest = told_of c.book-book.ensures.log newest_version c.newest.ensures;
-    } in
-    c.in_ok-begun.ensures.count ∙ as_nodes k.call
-
-pub note_copying-requires-clause-few : goal.note_copying-requires-clause-few
-note_copying-requires-clause-few g c =
-    subst (λ (xs : List (ℕ × ℕ)). length xs ≤ 255) (sym c.as_slice-met.ensures.value) c.in_ok-before.ensures.few
-
-pub note_copying-requires-clause-planned : goal.note_copying-requires-clause-planned
-note_copying-requires-clause-planned g c =
-    subst (λ (l : Log). ArePlanned 1 c.as_slice-met.result.now (map (met_in g.D.FaultDir.planned) c.begin_in.new.places.items) (printed l)) c.book.ensures.log c.in_ok-must_be_planned.ensures
-
-pub note_copying-requires-clause-unanswered : goal.note_copying-requires-clause-unanswered
-note_copying-requires-clause-unanswered g c =
+pub note_copying-requires-clause-tells : goal.note_copying-requires-clause-tells
+note_copying-requires-clause-tells g c =
+    can_tell g.D.FaultDir.planned 2 c.begin_in.new.places.items (ledger_room g.D.Dir.cells g.D.FaultDir.planned c.args.cluster.now c.cluster.inside.ledger c.met_before.new.ledger c.cluster.inside.places.items c.cluster.inside.tasks 2 c.cluster.view_is c.requires.running c.cluster.invariant c.in_ok-before.ensures.nodes c.as_slice-met.ensures.value c.in_ok-before.ensures.met c.in_ok-before.ensures.room c.in_ok-before.ensures.few) (omega arith) c.in_ok-begun.ensures.count
+    (subst (λ (l : Log). ArePlanned 1 c.as_slice-met.result.now (map (met_in g.D.FaultDir.planned) c.begin_in.new.places.items) (printed l)) c.book.ensures.log c.in_ok-must_be_planned.ensures)
     (subst (λ (l : Log). is_answered c.args.at (printed l) ≡ false) (sym c.in_ok-before.ensures.log) (fresh_of c.book-book.ensures.log c.is_fresh.ensures).replied)
 
 pub note_copying-requires-clause-rule : goal.note_copying-requires-clause-rule
 note_copying-requires-clause-rule g c =
     let k : CopyCall g.D.Dir.cells c.args.cluster.now c.cluster.inside.ledger c.met_before.new.ledger c.cluster.inside.places.items c.cluster.inside.tasks c.args.at c.args.p c.args.n (record { 0 = c.newest.result }) = record {
-      call = record {
-        ended = _;
-        left = _;
-        view = c.cluster.view_is;
-        running = c.requires.running;
-        all = c.cluster.invariant;
-        e1 = c.in_ok-before.ensures.log;
-        n1 = c.in_ok-before.ensures.nodes;
-        c1 = c.in_ok-before.ensures.cut;
-      };
+      call = call_of c.cluster.view_is c.requires.running c.cluster.invariant c.in_ok-before.ensures.log c.in_ok-before.ensures.nodes c.in_ok-before.ensures.cut;
       unbegun = unbegun_of (fresh_of c.book-book.ensures.log c.is_fresh.ensures);
       node_p = c.requires.source;
       node = c.requires.node;
@@ -174,16 +64,7 @@ note_copying-requires-clause-rule g c =
 pub note_copying-requires-clause-turn : goal.note_copying-requires-clause-turn
 note_copying-requires-clause-turn g c =
     let k : CopyCall g.D.Dir.cells c.args.cluster.now c.cluster.inside.ledger c.met_before.new.ledger c.cluster.inside.places.items c.cluster.inside.tasks c.args.at c.args.p c.args.n (record { 0 = c.newest.result }) = record {
-      call = record {
-        ended = _;
-        left = _;
-        view = c.cluster.view_is;
-        running = c.requires.running;
-        all = c.cluster.invariant;
-        e1 = c.in_ok-before.ensures.log;
-        n1 = c.in_ok-before.ensures.nodes;
-        c1 = c.in_ok-before.ensures.cut;
-      };
+      call = call_of c.cluster.view_is c.requires.running c.cluster.invariant c.in_ok-before.ensures.log c.in_ok-before.ensures.nodes c.in_ok-before.ensures.cut;
       unbegun = unbegun_of (fresh_of c.book-book.ensures.log c.is_fresh.ensures);
       node_p = c.requires.source;
       node = c.requires.node;
@@ -195,85 +76,16 @@ note_copying-requires-clause-turn g c =
     } in
     copy_starts k c.as_slice-met.result.now (map (met_in g.D.FaultDir.planned) c.begin_in.new.places.items)
 
-pub note_copying-requires-in-Failed-clause-room : goal.note_copying-requires-in-Failed-clause-room
-note_copying-requires-in-Failed-clause-room g c =
-    let room = c.in_ok-before.ensures.room in
-    let same = ap (λ (xs : List (ℕ × ℕ)). length xs) c.as_slice-met.ensures.value in
-    omega (arith, room, same)
-
-pub note_copying-requires-in-Failed-clause-count : goal.note_copying-requires-in-Failed-clause-count
-note_copying-requires-in-Failed-clause-count g c =
-    let k : CopyCall g.D.Dir.cells c.args.cluster.now c.cluster.inside.ledger c.met_before.new.ledger c.cluster.inside.places.items c.cluster.inside.tasks c.args.at c.args.p c.args.n (record { 0 = c.newest.result }) = record {
-      call = record {
-        ended = _;
-        left = _;
-        view = c.cluster.view_is;
-        running = c.requires.running;
-        all = c.cluster.invariant;
-        e1 = c.in_ok-before.ensures.log;
-        n1 = c.in_ok-before.ensures.nodes;
-        c1 = c.in_ok-before.ensures.cut;
-      };
-      unbegun = unbegun_of (fresh_of c.book-book.ensures.log c.is_fresh.ensures);
-      node_p = c.requires.source;
-      node = c.requires.node;
-      primary = c.requires.primary;
-      replica = c.requires.replica;
-      behind = c.requires.behind;
-      older = c.requires.older;
-      newest = told_of c.book-book.ensures.log newest_version c.newest.ensures;
-    } in
-    ap (λ (xs : List (ℕ × ℕ)). length xs) (c.as_slice-met.ensures.value ∙ c.in_ok-before.ensures.met) ∙ (length-map c.cluster.inside.places.items (met_in g.D.FaultDir.planned) ∙ as_nodes k.call)
-
-pub note_copying-requires-in-Failed-clause-places : goal.note_copying-requires-in-Failed-clause-places
-note_copying-requires-in-Failed-clause-places g c =
-    let k : CopyCall g.D.Dir.cells c.args.cluster.now c.cluster.inside.ledger c.met_before.new.ledger c.cluster.inside.places.items c.cluster.inside.tasks c.args.at c.args.p c.args.n (record { 0 = c.newest.result }) = record {
-      call = record {
-        ended = _;
-        left = _;
-        view = c.cluster.view_is;
-        running = c.requires.running;
-        all = c.cluster.invariant;
-        e1 = c.in_ok-before.ensures.log;
-        n1 = c.in_ok-before.ensures.nodes;
-        c1 = c.in_ok-before.ensures.cut;
-      };
-      unbegun = unbegun_of (fresh_of c.book-book.ensures.log c.is_fresh.ensures);
-      node_p = c.requires.source;
-      node = c.requires.node;
-      primary = c.requires.primary;
-      replica = c.requires.replica;
-      behind = c.requires.behind;
-      older = c.requires.older;
-      newest = told_of c.book-book.ensures.log newest_version c.newest.ensures;
-    } in
-    c.in_ok-begun.ensures.count ∙ as_nodes k.call
-
-pub note_copying-requires-in-Failed-clause-few : goal.note_copying-requires-in-Failed-clause-few
-note_copying-requires-in-Failed-clause-few g c =
-    subst (λ (xs : List (ℕ × ℕ)). length xs ≤ 255) (sym c.as_slice-met.ensures.value) c.in_ok-before.ensures.few
-
-pub note_copying-requires-in-Failed-clause-planned : goal.note_copying-requires-in-Failed-clause-planned
-note_copying-requires-in-Failed-clause-planned g c =
-    subst (λ (l : Log). ArePlanned 1 c.as_slice-met.result.now (map (met_in g.D.FaultDir.planned) c.begin_in.new.places.items) (printed l)) c.book.ensures.log c.in_ok-must_be_planned.ensures
-
-pub note_copying-requires-in-Failed-clause-unanswered : goal.note_copying-requires-in-Failed-clause-unanswered
-note_copying-requires-in-Failed-clause-unanswered g c =
+pub note_copying-requires-in-Failed-clause-tells : goal.note_copying-requires-in-Failed-clause-tells
+note_copying-requires-in-Failed-clause-tells g c =
+    can_tell g.D.FaultDir.planned 2 c.begin_in.new.places.items (ledger_room g.D.Dir.cells g.D.FaultDir.planned c.args.cluster.now c.cluster.inside.ledger c.met_before.new.ledger c.cluster.inside.places.items c.cluster.inside.tasks 2 c.cluster.view_is c.requires.running c.cluster.invariant c.in_ok-before.ensures.nodes c.as_slice-met.ensures.value c.in_ok-before.ensures.met c.in_ok-before.ensures.room c.in_ok-before.ensures.few) (omega arith) c.in_ok-begun.ensures.count
+    (subst (λ (l : Log). ArePlanned 1 c.as_slice-met.result.now (map (met_in g.D.FaultDir.planned) c.begin_in.new.places.items) (printed l)) c.book.ensures.log c.in_ok-must_be_planned.ensures)
     (subst (λ (l : Log). is_answered c.args.at (printed l) ≡ false) (sym c.in_ok-before.ensures.log) (fresh_of c.book-book.ensures.log c.is_fresh.ensures).replied)
 
 pub note_copying-requires-in-Failed-clause-rule : goal.note_copying-requires-in-Failed-clause-rule
 note_copying-requires-in-Failed-clause-rule g c =
     let k : CopyCall g.D.Dir.cells c.args.cluster.now c.cluster.inside.ledger c.met_before.new.ledger c.cluster.inside.places.items c.cluster.inside.tasks c.args.at c.args.p c.args.n (record { 0 = c.newest.result }) = record {
-      call = record {
-        ended = _;
-        left = _;
-        view = c.cluster.view_is;
-        running = c.requires.running;
-        all = c.cluster.invariant;
-        e1 = c.in_ok-before.ensures.log;
-        n1 = c.in_ok-before.ensures.nodes;
-        c1 = c.in_ok-before.ensures.cut;
-      };
+      call = call_of c.cluster.view_is c.requires.running c.cluster.invariant c.in_ok-before.ensures.log c.in_ok-before.ensures.nodes c.in_ok-before.ensures.cut;
       unbegun = unbegun_of (fresh_of c.book-book.ensures.log c.is_fresh.ensures);
       node_p = c.requires.source;
       node = c.requires.node;
@@ -288,16 +100,7 @@ note_copying-requires-in-Failed-clause-rule g c =
 pub note_copying-requires-in-Failed-clause-turn : goal.note_copying-requires-in-Failed-clause-turn
 note_copying-requires-in-Failed-clause-turn g c =
     let k : CopyCall g.D.Dir.cells c.args.cluster.now c.cluster.inside.ledger c.met_before.new.ledger c.cluster.inside.places.items c.cluster.inside.tasks c.args.at c.args.p c.args.n (record { 0 = c.newest.result }) = record {
-      call = record {
-        ended = _;
-        left = _;
-        view = c.cluster.view_is;
-        running = c.requires.running;
-        all = c.cluster.invariant;
-        e1 = c.in_ok-before.ensures.log;
-        n1 = c.in_ok-before.ensures.nodes;
-        c1 = c.in_ok-before.ensures.cut;
-      };
+      call = call_of c.cluster.view_is c.requires.running c.cluster.invariant c.in_ok-before.ensures.log c.in_ok-before.ensures.nodes c.in_ok-before.ensures.cut;
       unbegun = unbegun_of (fresh_of c.book-book.ensures.log c.is_fresh.ensures);
       node_p = c.requires.source;
       node = c.requires.node;
@@ -312,16 +115,7 @@ note_copying-requires-in-Failed-clause-turn g c =
 pub keep-requires-clause-turn : goal.keep-requires-clause-turn
 keep-requires-clause-turn g c =
     let k : CopyCall g.D.Dir.cells c.args.cluster.now c.cluster.inside.ledger c.met_before.new.ledger c.cluster.inside.places.items c.cluster.inside.tasks c.args.at c.args.p c.args.n (record { 0 = c.newest.result }) = record {
-      call = record {
-        ended = _;
-        left = _;
-        view = c.cluster.view_is;
-        running = c.requires.running;
-        all = c.cluster.invariant;
-        e1 = c.in_ok-before.ensures.log;
-        n1 = c.in_ok-before.ensures.nodes;
-        c1 = c.in_ok-before.ensures.cut;
-      };
+      call = call_of c.cluster.view_is c.requires.running c.cluster.invariant c.in_ok-before.ensures.log c.in_ok-before.ensures.nodes c.in_ok-before.ensures.cut;
       unbegun = unbegun_of (fresh_of c.book-book.ensures.log c.is_fresh.ensures);
       node_p = c.requires.source;
       node = c.requires.node;
@@ -339,16 +133,7 @@ keep-requires-clause-turn g c =
 pub invariant_of-cluster-in-Done : goal.invariant_of-cluster-in-Done
 invariant_of-cluster-in-Done g c =
     let k : CopyCall g.D.Dir.cells c.args.cluster.now c.cluster.inside.ledger c.met_before.new.ledger c.cluster.inside.places.items c.cluster.inside.tasks c.args.at c.args.p c.args.n (record { 0 = c.newest.result }) = record {
-      call = record {
-        ended = _;
-        left = _;
-        view = c.cluster.view_is;
-        running = c.requires.running;
-        all = c.cluster.invariant;
-        e1 = c.in_ok-before.ensures.log;
-        n1 = c.in_ok-before.ensures.nodes;
-        c1 = c.in_ok-before.ensures.cut;
-      };
+      call = call_of c.cluster.view_is c.requires.running c.cluster.invariant c.in_ok-before.ensures.log c.in_ok-before.ensures.nodes c.in_ok-before.ensures.cut;
       unbegun = unbegun_of (fresh_of c.book-book.ensures.log c.is_fresh.ensures);
       node_p = c.requires.source;
       node = c.requires.node;
@@ -386,41 +171,13 @@ returns-in-Done-clause-rest g c =
 
 pub must_have_risen-requires : goal.must_have_risen-requires
 must_have_risen-requires g c =
-    let k : CopyCall g.D.Dir.cells c.args.cluster.now c.cluster.inside.ledger c.met_before.new.ledger c.cluster.inside.places.items c.cluster.inside.tasks c.args.at c.args.p c.args.n (record { 0 = c.newest.result }) = record {
-      call = record {
-        ended = _;
-        left = _;
-        view = c.cluster.view_is;
-        running = c.requires.running;
-        all = c.cluster.invariant;
-        e1 = c.in_ok-before.ensures.log;
-        n1 = c.in_ok-before.ensures.nodes;
-        c1 = c.in_ok-before.ensures.cut;
-      };
-      unbegun = unbegun_of (fresh_of c.book-book.ensures.log c.is_fresh.ensures);
-      node_p = c.requires.source;
-      node = c.requires.node;
-      primary = c.requires.primary;
-      replica = c.requires.replica;
-      behind = c.requires.behind;
-      older = c.requires.older;
-      newest = told_of c.book-book.ensures.log newest_version c.newest.ensures;
-    } in
-    (c.in_ok-begun.ensures.count ∙ as_nodes k.call) ∙ sym (ap (λ (xs : List (ℕ × ℕ)). length xs) (c.as_slice-met.ensures.value ∙ c.in_ok-before.ensures.met) ∙ (length-map c.cluster.inside.places.items (met_in g.D.FaultDir.planned) ∙ as_nodes k.call))
+    let r = ledger_room g.D.Dir.cells g.D.FaultDir.planned c.args.cluster.now c.cluster.inside.ledger c.met_before.new.ledger c.cluster.inside.places.items c.cluster.inside.tasks 2 c.cluster.view_is c.requires.running c.cluster.invariant c.in_ok-before.ensures.nodes c.as_slice-met.ensures.value c.in_ok-before.ensures.met c.in_ok-before.ensures.room c.in_ok-before.ensures.few in
+    c.in_ok-begun.ensures.count ∙ (r.nodes ∙ sym r.count)
 
 pub show-requires-clause-rule : goal.show-requires-clause-rule
 show-requires-clause-rule g c =
     let k : CopyCall g.D.Dir.cells c.args.cluster.now c.cluster.inside.ledger c.met_before.new.ledger c.cluster.inside.places.items c.cluster.inside.tasks c.args.at c.args.p c.args.n (record { 0 = c.newest.result }) = record {
-      call = record {
-        ended = _;
-        left = _;
-        view = c.cluster.view_is;
-        running = c.requires.running;
-        all = c.cluster.invariant;
-        e1 = c.in_ok-before.ensures.log;
-        n1 = c.in_ok-before.ensures.nodes;
-        c1 = c.in_ok-before.ensures.cut;
-      };
+      call = call_of c.cluster.view_is c.requires.running c.cluster.invariant c.in_ok-before.ensures.log c.in_ok-before.ensures.nodes c.in_ok-before.ensures.cut;
       unbegun = unbegun_of (fresh_of c.book-book.ensures.log c.is_fresh.ensures);
       node_p = c.requires.source;
       node = c.requires.node;
@@ -435,16 +192,7 @@ show-requires-clause-rule g c =
 pub show-requires-clause-turn : goal.show-requires-clause-turn
 show-requires-clause-turn g c =
     let k : CopyCall g.D.Dir.cells c.args.cluster.now c.cluster.inside.ledger c.met_before.new.ledger c.cluster.inside.places.items c.cluster.inside.tasks c.args.at c.args.p c.args.n (record { 0 = c.newest.result }) = record {
-      call = record {
-        ended = _;
-        left = _;
-        view = c.cluster.view_is;
-        running = c.requires.running;
-        all = c.cluster.invariant;
-        e1 = c.in_ok-before.ensures.log;
-        n1 = c.in_ok-before.ensures.nodes;
-        c1 = c.in_ok-before.ensures.cut;
-      };
+      call = call_of c.cluster.view_is c.requires.running c.cluster.invariant c.in_ok-before.ensures.log c.in_ok-before.ensures.nodes c.in_ok-before.ensures.cut;
       unbegun = unbegun_of (fresh_of c.book-book.ensures.log c.is_fresh.ensures);
       node_p = c.requires.source;
       node = c.requires.node;
@@ -459,16 +207,7 @@ show-requires-clause-turn g c =
 pub invariant_of-cluster-in-Failed : goal.invariant_of-cluster-in-Failed
 invariant_of-cluster-in-Failed g c =
     let k : CopyCall g.D.Dir.cells c.args.cluster.now c.cluster.inside.ledger c.met_before.new.ledger c.cluster.inside.places.items c.cluster.inside.tasks c.args.at c.args.p c.args.n (record { 0 = c.newest.result }) = record {
-      call = record {
-        ended = _;
-        left = _;
-        view = c.cluster.view_is;
-        running = c.requires.running;
-        all = c.cluster.invariant;
-        e1 = c.in_ok-before.ensures.log;
-        n1 = c.in_ok-before.ensures.nodes;
-        c1 = c.in_ok-before.ensures.cut;
-      };
+      call = call_of c.cluster.view_is c.requires.running c.cluster.invariant c.in_ok-before.ensures.log c.in_ok-before.ensures.nodes c.in_ok-before.ensures.cut;
       unbegun = unbegun_of (fresh_of c.book-book.ensures.log c.is_fresh.ensures);
       node_p = c.requires.source;
       node = c.requires.node;

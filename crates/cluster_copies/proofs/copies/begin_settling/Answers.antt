@@ -1,5 +1,4 @@
-use Rattle.std.proofs.Common.{true, false, ◌≢◌, ◌≤◌, ◌∙◌, ◌∷◌, List, ℕ, Some, None, ap, refl, sym, subst, arith, length, map, true≢false}
-use Rattle.std.proofs.lemmas.List.{length-map}
+use Rattle.std.proofs.Common.{false, ◌≢◌, ◌∙◌, ◌∷◌, ℕ, Some, None, ap, refl, sym, subst, arith, map, true≢false}
 use Rattle.nrt_base.specs.declared.numbers.Version.{Version}
 use Rattle.history_rules.specs.declared.cause.Cause.TheVariants.{DiskFault}
 use Rattle.history_rules.specs.declared.entry.Event.TheVariants.{Refused}
@@ -22,7 +21,7 @@ use Rattle.cluster_copies.proofs.CopyPaths.{can_begin_settling, settle_path, set
 use Rattle.cluster_copies.proofs.TakingOver.{taken_by}
 use Rattle.cluster_copies.proofs.JobMerges.{begun_stand}
 use Rattle.cluster_copies.proofs.MetLines.{met_words, line_still, source_still, waits_still}
-use Rattle.cluster_copies.proofs.Calls.{as_nodes, met_stands, altered_files, SettleCall, settle_started, settle_line, settle_survives, settle_waits, settle_primary, settle_older, settle_newest, settle_source, settle_rule, settle_fail_turn, no_settle_path}
+use Rattle.cluster_copies.proofs.Calls.{call_of, ledger_room, can_tell, met_stands, altered_files, SettleCall, settle_started, settle_line, settle_survives, settle_waits, settle_primary, settle_older, settle_newest, settle_source, settle_rule, settle_fail_turn, no_settle_path}
 use Rattle.cluster_state.proofs.KeptOthers.{all_kept, but_job}
 use Rattle.cluster_copies.proofs.KeptJobs.{altered_tells, begun_tells}
 use Rattle.cluster_copies.proofs.copies.begin_settling.Goals as goal
@@ -35,203 +34,28 @@ begin_in-requires g c = can_begin_settling g.D.Dir.cells c.args.cluster.now _ _ 
 
 pub must_be_planned-requires-clause-count : goal.must_be_planned-requires-clause-count
 must_be_planned-requires-clause-count g c =
-    let k : SettleCall g.D.Dir.cells c.args.cluster.now c.cluster.inside.ledger c.met_before.new.ledger c.cluster.inside.places.items c.cluster.inside.tasks c.args.at c.args.p c.args.n (record { 0 = c.newest.result }) c.args.v = record {
-      call = record {
-        ended = _;
-        left = _;
-        view = c.cluster.view_is;
-        running = c.requires.running;
-        all = c.cluster.invariant;
-        e1 = c.in_ok-before.ensures.log;
-        n1 = c.in_ok-before.ensures.nodes;
-        c1 = c.in_ok-before.ensures.cut;
-      };
-      legal = legal_of c.book-book.ensures.nodes c.book-book.ensures.log c.is_legal.ensures.legal;
-      started = c.requires.started;
-      line = c.requires.line;
-      node_p = c.requires.source;
-      primary = c.requires.primary;
-      survives = c.requires.survives;
-      waits = c.requires.waits;
-      older = c.requires.older;
-      newest = told_of c.book-book.ensures.log newest_version c.newest.ensures;
-    } in
-    ap (λ (xs : List (ℕ × ℕ)). length xs) (c.as_slice-met.ensures.value ∙ c.in_ok-before.ensures.met) ∙ (length-map c.cluster.inside.places.items (met_in g.D.FaultDir.planned) ∙ as_nodes k.call) ∙ sym c.book.ensures.nodes
+    (ledger_room g.D.Dir.cells g.D.FaultDir.planned c.args.cluster.now c.cluster.inside.ledger c.met_before.new.ledger c.cluster.inside.places.items c.cluster.inside.tasks 1 c.cluster.view_is c.requires.running c.cluster.invariant c.in_ok-before.ensures.nodes c.as_slice-met.ensures.value c.in_ok-before.ensures.met c.in_ok-before.ensures.room c.in_ok-before.ensures.few).count ∙ sym c.book.ensures.nodes
 
 pub must_be_planned-requires-clause-places : goal.must_be_planned-requires-clause-places
 must_be_planned-requires-clause-places g c =
-    let k : SettleCall g.D.Dir.cells c.args.cluster.now c.cluster.inside.ledger c.met_before.new.ledger c.cluster.inside.places.items c.cluster.inside.tasks c.args.at c.args.p c.args.n (record { 0 = c.newest.result }) c.args.v = record {
-      call = record {
-        ended = _;
-        left = _;
-        view = c.cluster.view_is;
-        running = c.requires.running;
-        all = c.cluster.invariant;
-        e1 = c.in_ok-before.ensures.log;
-        n1 = c.in_ok-before.ensures.nodes;
-        c1 = c.in_ok-before.ensures.cut;
-      };
-      legal = legal_of c.book-book.ensures.nodes c.book-book.ensures.log c.is_legal.ensures.legal;
-      started = c.requires.started;
-      line = c.requires.line;
-      node_p = c.requires.source;
-      primary = c.requires.primary;
-      survives = c.requires.survives;
-      waits = c.requires.waits;
-      older = c.requires.older;
-      newest = told_of c.book-book.ensures.log newest_version c.newest.ensures;
-    } in
-    c.in_ok-begun.ensures.count ∙ (as_nodes k.call ∙ sym c.book.ensures.nodes)
+    c.in_ok-begun.ensures.count ∙ ((ledger_room g.D.Dir.cells g.D.FaultDir.planned c.args.cluster.now c.cluster.inside.ledger c.met_before.new.ledger c.cluster.inside.places.items c.cluster.inside.tasks 1 c.cluster.view_is c.requires.running c.cluster.invariant c.in_ok-before.ensures.nodes c.as_slice-met.ensures.value c.in_ok-before.ensures.met c.in_ok-before.ensures.room c.in_ok-before.ensures.few).nodes ∙ sym c.book.ensures.nodes)
 
-pub note_job-requires-clause-room : goal.note_job-requires-clause-room
-note_job-requires-clause-room g c =
-    let room = c.in_ok-before.ensures.room in
-    let same = ap (λ (xs : List (ℕ × ℕ)). length xs) c.as_slice-met.ensures.value in
-    omega (arith, room, same)
+pub note_job-requires-clause-tells : goal.note_job-requires-clause-tells
+note_job-requires-clause-tells g c =
+    can_tell g.D.FaultDir.planned 1 c.begin_in.new.places.items (ledger_room g.D.Dir.cells g.D.FaultDir.planned c.args.cluster.now c.cluster.inside.ledger c.met_before.new.ledger c.cluster.inside.places.items c.cluster.inside.tasks 1 c.cluster.view_is c.requires.running c.cluster.invariant c.in_ok-before.ensures.nodes c.as_slice-met.ensures.value c.in_ok-before.ensures.met c.in_ok-before.ensures.room c.in_ok-before.ensures.few) (omega arith) c.in_ok-begun.ensures.count
+    (subst (λ (l : Log). ArePlanned 1 c.as_slice-met.result.now (map (met_in g.D.FaultDir.planned) c.begin_in.new.places.items) (printed l)) c.book.ensures.log c.in_ok-must_be_planned.ensures)
+    (ap (λ (l : Log). is_answered c.args.at (printed l)) (sym (c.book-book.ensures.log ∙ sym c.in_ok-before.ensures.log)) ∙ c.is_unanswered.ensures)
 
-pub note_job-requires-clause-count : goal.note_job-requires-clause-count
-note_job-requires-clause-count g c =
-    let k : SettleCall g.D.Dir.cells c.args.cluster.now c.cluster.inside.ledger c.met_before.new.ledger c.cluster.inside.places.items c.cluster.inside.tasks c.args.at c.args.p c.args.n (record { 0 = c.newest.result }) c.args.v = record {
-      call = record {
-        ended = _;
-        left = _;
-        view = c.cluster.view_is;
-        running = c.requires.running;
-        all = c.cluster.invariant;
-        e1 = c.in_ok-before.ensures.log;
-        n1 = c.in_ok-before.ensures.nodes;
-        c1 = c.in_ok-before.ensures.cut;
-      };
-      legal = legal_of c.book-book.ensures.nodes c.book-book.ensures.log c.is_legal.ensures.legal;
-      started = c.requires.started;
-      line = c.requires.line;
-      node_p = c.requires.source;
-      primary = c.requires.primary;
-      survives = c.requires.survives;
-      waits = c.requires.waits;
-      older = c.requires.older;
-      newest = told_of c.book-book.ensures.log newest_version c.newest.ensures;
-    } in
-    ap (λ (xs : List (ℕ × ℕ)). length xs) (c.as_slice-met.ensures.value ∙ c.in_ok-before.ensures.met) ∙ (length-map c.cluster.inside.places.items (met_in g.D.FaultDir.planned) ∙ as_nodes k.call)
-
-pub note_job-requires-clause-places : goal.note_job-requires-clause-places
-note_job-requires-clause-places g c =
-    let k : SettleCall g.D.Dir.cells c.args.cluster.now c.cluster.inside.ledger c.met_before.new.ledger c.cluster.inside.places.items c.cluster.inside.tasks c.args.at c.args.p c.args.n (record { 0 = c.newest.result }) c.args.v = record {
-      call = record {
-        ended = _;
-        left = _;
-        view = c.cluster.view_is;
-        running = c.requires.running;
-        all = c.cluster.invariant;
-        e1 = c.in_ok-before.ensures.log;
-        n1 = c.in_ok-before.ensures.nodes;
-        c1 = c.in_ok-before.ensures.cut;
-      };
-      legal = legal_of c.book-book.ensures.nodes c.book-book.ensures.log c.is_legal.ensures.legal;
-      started = c.requires.started;
-      line = c.requires.line;
-      node_p = c.requires.source;
-      primary = c.requires.primary;
-      survives = c.requires.survives;
-      waits = c.requires.waits;
-      older = c.requires.older;
-      newest = told_of c.book-book.ensures.log newest_version c.newest.ensures;
-    } in
-    c.in_ok-begun.ensures.count ∙ as_nodes k.call
-
-pub note_job-requires-clause-few : goal.note_job-requires-clause-few
-note_job-requires-clause-few g c =
-    subst (λ (xs : List (ℕ × ℕ)). length xs ≤ 255) (sym c.as_slice-met.ensures.value) c.in_ok-before.ensures.few
-
-pub note_job-requires-clause-planned : goal.note_job-requires-clause-planned
-note_job-requires-clause-planned g c =
-    subst (λ (l : Log). ArePlanned 1 c.as_slice-met.result.now (map (met_in g.D.FaultDir.planned) c.begin_in.new.places.items) (printed l)) c.book.ensures.log c.in_ok-must_be_planned.ensures
-
-pub note_job-requires-clause-unanswered : goal.note_job-requires-clause-unanswered
-note_job-requires-clause-unanswered g c =
-    ap (λ (l : Log). is_answered c.args.at (printed l)) (sym (c.book-book.ensures.log ∙ sym c.in_ok-before.ensures.log)) ∙ c.is_unanswered.ensures
-
-pub note_failed-requires-clause-room : goal.note_failed-requires-clause-room
-note_failed-requires-clause-room g c =
-    let room = c.in_ok-before.ensures.room in
-    let same = ap (λ (xs : List (ℕ × ℕ)). length xs) c.as_slice-met.ensures.value in
-    omega (arith, room, same)
-
-pub note_failed-requires-clause-count : goal.note_failed-requires-clause-count
-note_failed-requires-clause-count g c =
-    let k : SettleCall g.D.Dir.cells c.args.cluster.now c.cluster.inside.ledger c.met_before.new.ledger c.cluster.inside.places.items c.cluster.inside.tasks c.args.at c.args.p c.args.n (record { 0 = c.newest.result }) c.args.v = record {
-      call = record {
-        ended = _;
-        left = _;
-        view = c.cluster.view_is;
-        running = c.requires.running;
-        all = c.cluster.invariant;
-        e1 = c.in_ok-before.ensures.log;
-        n1 = c.in_ok-before.ensures.nodes;
-        c1 = c.in_ok-before.ensures.cut;
-      };
-      legal = legal_of c.book-book.ensures.nodes c.book-book.ensures.log c.is_legal.ensures.legal;
-      started = c.requires.started;
-      line = c.requires.line;
-      node_p = c.requires.source;
-      primary = c.requires.primary;
-      survives = c.requires.survives;
-      waits = c.requires.waits;
-      older = c.requires.older;
-      newest = told_of c.book-book.ensures.log newest_version c.newest.ensures;
-    } in
-    ap (λ (xs : List (ℕ × ℕ)). length xs) (c.as_slice-met.ensures.value ∙ c.in_ok-before.ensures.met) ∙ (length-map c.cluster.inside.places.items (met_in g.D.FaultDir.planned) ∙ as_nodes k.call)
-
-pub note_failed-requires-clause-places : goal.note_failed-requires-clause-places
-note_failed-requires-clause-places g c =
-    let k : SettleCall g.D.Dir.cells c.args.cluster.now c.cluster.inside.ledger c.met_before.new.ledger c.cluster.inside.places.items c.cluster.inside.tasks c.args.at c.args.p c.args.n (record { 0 = c.newest.result }) c.args.v = record {
-      call = record {
-        ended = _;
-        left = _;
-        view = c.cluster.view_is;
-        running = c.requires.running;
-        all = c.cluster.invariant;
-        e1 = c.in_ok-before.ensures.log;
-        n1 = c.in_ok-before.ensures.nodes;
-        c1 = c.in_ok-before.ensures.cut;
-      };
-      legal = legal_of c.book-book.ensures.nodes c.book-book.ensures.log c.is_legal.ensures.legal;
-      started = c.requires.started;
-      line = c.requires.line;
-      node_p = c.requires.source;
-      primary = c.requires.primary;
-      survives = c.requires.survives;
-      waits = c.requires.waits;
-      older = c.requires.older;
-      newest = told_of c.book-book.ensures.log newest_version c.newest.ensures;
-    } in
-    c.in_ok-begun.ensures.count ∙ as_nodes k.call
-
-pub note_failed-requires-clause-few : goal.note_failed-requires-clause-few
-note_failed-requires-clause-few g c =
-    subst (λ (xs : List (ℕ × ℕ)). length xs ≤ 255) (sym c.as_slice-met.ensures.value) c.in_ok-before.ensures.few
-
-pub note_failed-requires-clause-planned : goal.note_failed-requires-clause-planned
-note_failed-requires-clause-planned g c =
-    subst (λ (l : Log). ArePlanned 1 c.as_slice-met.result.now (map (met_in g.D.FaultDir.planned) c.begin_in.new.places.items) (printed l)) c.book.ensures.log c.in_ok-must_be_planned.ensures
-
-pub note_failed-requires-clause-unanswered : goal.note_failed-requires-clause-unanswered
-note_failed-requires-clause-unanswered g c =
-    ap (λ (l : Log). is_answered c.args.at (printed l)) (sym (c.book-book.ensures.log ∙ sym c.in_ok-before.ensures.log)) ∙ c.is_unanswered.ensures
+pub note_failed-requires-clause-tells : goal.note_failed-requires-clause-tells
+note_failed-requires-clause-tells g c =
+    can_tell g.D.FaultDir.planned 1 c.begin_in.new.places.items (ledger_room g.D.Dir.cells g.D.FaultDir.planned c.args.cluster.now c.cluster.inside.ledger c.met_before.new.ledger c.cluster.inside.places.items c.cluster.inside.tasks 1 c.cluster.view_is c.requires.running c.cluster.invariant c.in_ok-before.ensures.nodes c.as_slice-met.ensures.value c.in_ok-before.ensures.met c.in_ok-before.ensures.room c.in_ok-before.ensures.few) (omega arith) c.in_ok-begun.ensures.count
+    (subst (λ (l : Log). ArePlanned 1 c.as_slice-met.result.now (map (met_in g.D.FaultDir.planned) c.begin_in.new.places.items) (printed l)) c.book.ensures.log c.in_ok-must_be_planned.ensures)
+    (ap (λ (l : Log). is_answered c.args.at (printed l)) (sym (c.book-book.ensures.log ∙ sym c.in_ok-before.ensures.log)) ∙ c.is_unanswered.ensures)
 
 pub note_job-requires-clause-inside : goal.note_job-requires-clause-inside
 note_job-requires-clause-inside g c =
     let k : SettleCall g.D.Dir.cells c.args.cluster.now c.cluster.inside.ledger c.met_before.new.ledger c.cluster.inside.places.items c.cluster.inside.tasks c.args.at c.args.p c.args.n (record { 0 = c.newest.result }) c.args.v = record {
-      call = record {
-        ended = _;
-        left = _;
-        view = c.cluster.view_is;
-        running = c.requires.running;
-        all = c.cluster.invariant;
-        e1 = c.in_ok-before.ensures.log;
-        n1 = c.in_ok-before.ensures.nodes;
-        c1 = c.in_ok-before.ensures.cut;
-      };
+      call = call_of c.cluster.view_is c.requires.running c.cluster.invariant c.in_ok-before.ensures.log c.in_ok-before.ensures.nodes c.in_ok-before.ensures.cut;
       legal = legal_of c.book-book.ensures.nodes c.book-book.ensures.log c.is_legal.ensures.legal;
       started = c.requires.started;
       line = c.requires.line;
@@ -248,42 +72,13 @@ note_job-requires-clause-inside g c =
 
 pub must_have_risen-requires : goal.must_have_risen-requires
 must_have_risen-requires g c =
-    let k : SettleCall g.D.Dir.cells c.args.cluster.now c.cluster.inside.ledger c.met_before.new.ledger c.cluster.inside.places.items c.cluster.inside.tasks c.args.at c.args.p c.args.n (record { 0 = c.newest.result }) c.args.v = record {
-      call = record {
-        ended = _;
-        left = _;
-        view = c.cluster.view_is;
-        running = c.requires.running;
-        all = c.cluster.invariant;
-        e1 = c.in_ok-before.ensures.log;
-        n1 = c.in_ok-before.ensures.nodes;
-        c1 = c.in_ok-before.ensures.cut;
-      };
-      legal = legal_of c.book-book.ensures.nodes c.book-book.ensures.log c.is_legal.ensures.legal;
-      started = c.requires.started;
-      line = c.requires.line;
-      node_p = c.requires.source;
-      primary = c.requires.primary;
-      survives = c.requires.survives;
-      waits = c.requires.waits;
-      older = c.requires.older;
-      newest = told_of c.book-book.ensures.log newest_version c.newest.ensures;
-    } in
-    (c.in_ok-begun.ensures.count ∙ as_nodes k.call) ∙ sym (ap (λ (xs : List (ℕ × ℕ)). length xs) (c.as_slice-met.ensures.value ∙ c.in_ok-before.ensures.met) ∙ (length-map c.cluster.inside.places.items (met_in g.D.FaultDir.planned) ∙ as_nodes k.call))
+    let r = ledger_room g.D.Dir.cells g.D.FaultDir.planned c.args.cluster.now c.cluster.inside.ledger c.met_before.new.ledger c.cluster.inside.places.items c.cluster.inside.tasks 1 c.cluster.view_is c.requires.running c.cluster.invariant c.in_ok-before.ensures.nodes c.as_slice-met.ensures.value c.in_ok-before.ensures.met c.in_ok-before.ensures.room c.in_ok-before.ensures.few in
+    c.in_ok-begun.ensures.count ∙ (r.nodes ∙ sym r.count)
 
 pub note_failed-requires-clause-rule : goal.note_failed-requires-clause-rule
 note_failed-requires-clause-rule g c =
     let k : SettleCall g.D.Dir.cells c.args.cluster.now c.cluster.inside.ledger c.met_before.new.ledger c.cluster.inside.places.items c.cluster.inside.tasks c.args.at c.args.p c.args.n (record { 0 = c.newest.result }) c.args.v = record {
-      call = record {
-        ended = _;
-        left = _;
-        view = c.cluster.view_is;
-        running = c.requires.running;
-        all = c.cluster.invariant;
-        e1 = c.in_ok-before.ensures.log;
-        n1 = c.in_ok-before.ensures.nodes;
-        c1 = c.in_ok-before.ensures.cut;
-      };
+      call = call_of c.cluster.view_is c.requires.running c.cluster.invariant c.in_ok-before.ensures.log c.in_ok-before.ensures.nodes c.in_ok-before.ensures.cut;
       legal = legal_of c.book-book.ensures.nodes c.book-book.ensures.log c.is_legal.ensures.legal;
       started = c.requires.started;
       line = c.requires.line;
@@ -299,16 +94,7 @@ note_failed-requires-clause-rule g c =
 pub note_failed-requires-clause-turn : goal.note_failed-requires-clause-turn
 note_failed-requires-clause-turn g c =
     let k : SettleCall g.D.Dir.cells c.args.cluster.now c.cluster.inside.ledger c.met_before.new.ledger c.cluster.inside.places.items c.cluster.inside.tasks c.args.at c.args.p c.args.n (record { 0 = c.newest.result }) c.args.v = record {
-      call = record {
-        ended = _;
-        left = _;
-        view = c.cluster.view_is;
-        running = c.requires.running;
-        all = c.cluster.invariant;
-        e1 = c.in_ok-before.ensures.log;
-        n1 = c.in_ok-before.ensures.nodes;
-        c1 = c.in_ok-before.ensures.cut;
-      };
+      call = call_of c.cluster.view_is c.requires.running c.cluster.invariant c.in_ok-before.ensures.log c.in_ok-before.ensures.nodes c.in_ok-before.ensures.cut;
       legal = legal_of c.book-book.ensures.nodes c.book-book.ensures.log c.is_legal.ensures.legal;
       started = c.requires.started;
       line = c.requires.line;
@@ -324,16 +110,7 @@ note_failed-requires-clause-turn g c =
 pub invariant_of-cluster-in-Done : goal.invariant_of-cluster-in-Done
 invariant_of-cluster-in-Done g c =
     let k : SettleCall g.D.Dir.cells c.args.cluster.now c.cluster.inside.ledger c.met_before.new.ledger c.cluster.inside.places.items c.cluster.inside.tasks c.args.at c.args.p c.args.n (record { 0 = c.newest.result }) c.args.v = record {
-      call = record {
-        ended = _;
-        left = _;
-        view = c.cluster.view_is;
-        running = c.requires.running;
-        all = c.cluster.invariant;
-        e1 = c.in_ok-before.ensures.log;
-        n1 = c.in_ok-before.ensures.nodes;
-        c1 = c.in_ok-before.ensures.cut;
-      };
+      call = call_of c.cluster.view_is c.requires.running c.cluster.invariant c.in_ok-before.ensures.log c.in_ok-before.ensures.nodes c.in_ok-before.ensures.cut;
       legal = legal_of c.book-book.ensures.nodes c.book-book.ensures.log c.is_legal.ensures.legal;
       started = c.requires.started;
       line = c.requires.line;
@@ -371,16 +148,7 @@ returns-in-Done-clause-rest g c =
 pub invariant_of-cluster-in-Failed : goal.invariant_of-cluster-in-Failed
 invariant_of-cluster-in-Failed g c =
     let k : SettleCall g.D.Dir.cells c.args.cluster.now c.cluster.inside.ledger c.met_before.new.ledger c.cluster.inside.places.items c.cluster.inside.tasks c.args.at c.args.p c.args.n (record { 0 = c.newest.result }) c.args.v = record {
-      call = record {
-        ended = _;
-        left = _;
-        view = c.cluster.view_is;
-        running = c.requires.running;
-        all = c.cluster.invariant;
-        e1 = c.in_ok-before.ensures.log;
-        n1 = c.in_ok-before.ensures.nodes;
-        c1 = c.in_ok-before.ensures.cut;
-      };
+      call = call_of c.cluster.view_is c.requires.running c.cluster.invariant c.in_ok-before.ensures.log c.in_ok-before.ensures.nodes c.in_ok-before.ensures.cut;
       legal = legal_of c.book-book.ensures.nodes c.book-book.ensures.log c.is_legal.ensures.legal;
       started = c.requires.started;
       line = c.requires.line;
