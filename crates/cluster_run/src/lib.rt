@@ -8,4 +8,4 @@ pub mod script;
 
 pub use cluster_site::{Cluster, Gate, Place, Site};
 pub use runner::ClusterLines;
-pub use script::run_script;
+pub use script::{let_go, run_script};

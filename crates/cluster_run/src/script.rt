@@ -106,3 +106,8 @@ pub fn run_script<R: Threads + Wait + Sync, G: Gate + Sync>(
     cluster.ended();
     Ok(cluster)
 }
+
+/// Lets go what a run left. What lets it go by itself has the drop of each of its parts to prove.
+pub fn let_go(left: Option<Cluster<MemDir>>) {
+    drop(left);
+}

@@ -8,7 +8,7 @@ mod nodes;
 mod showing;
 mod top;
 
-pub use cluster_run::{Cluster, Gate, Place};
+pub use cluster_run::{Cluster, Gate, Place, let_go};
 pub use gate::OpenGate;
 pub use nodes::NodeText;
 pub use top::run_nrt;

@@ -4,12 +4,13 @@ ghost use Rattle.std.specs.Prelude.{◌≡◌, ◌≢◌, ◌≤◌, ◌<◌, �
 ghost use Rattle.nrt_base.specs.Causes.{Rose};
 ghost use Rattle.nrt_commands.specs.Load.{IsLoadOf, IsSummary, LeavesSummary, LeavesSummaryInPart, IsLoadAnswer};
 
-use cluster_run::{Cluster, Gate, run_script};
+use cluster_run::{Cluster, Gate, let_go, run_script};
 use disk_memory::MemDir;
 use load_script::{generated, summary};
 use nrt_base::NoMemory;
 use nrt_streams::{Arg, Sink};
 use std::alloc::Global;
+use std::mem::replace;
 use std::sync::Wait;
 use std::thread::Threads;
 use stream_commands::{Status, write_all};
@@ -27,8 +28,13 @@ fn run_load<R: Threads + Wait + Sync, G: Gate + Sync>(
 {
     let script = generated(alloc, n)?;
     let cluster = run_script(rt, alloc, gate, &script)?;
-    let text = summary(alloc, n, cluster.entries())?;
-    Ok((cluster, text))
+    match summary(alloc, n, cluster.entries()) {
+        Ok(text) => Ok((cluster, text)),
+        Err(no_memory) => {
+            let_go(Some(cluster));
+            Err(no_memory)
+        }
+    }
 }
 
 /// Runs the script of n documents, and writes its summary to the sink.
@@ -59,7 +65,7 @@ fn load_documents<R: Threads + Wait + Sync, K: Sink, G: Gate + Sync>(
     let Ok((cluster, text)) = run_load(rt, alloc, gate, n) else {
         return Status::Memory;
     };
-    *left = Some(cluster);
+    let_go(replace(left, Some(cluster)));
     match write_all(sink, text.as_slice()) {
         Ok(()) => Status::Done,
         Err(_) => Status::WriteFault,

@@ -9,7 +9,7 @@ ghost use Rattle.stream_commands.specs.Reads.{TakesWithin, TakesMore, longest};
 ghost use Rattle.stream_commands.specs.Judge.{TellsIllegal, FoundIllegal};
 ghost use Rattle.stream_commands.specs.Pictures.{picture_by, ShowsScript, Shows, ShowsInPart, ShowsSource, ShowsSourceInPart, RefusesSource, IsShowAnswer, Showed, ShowedInPart, RefusesShown, AnswersShown};
 
-use cluster_run::{Gate, run_script};
+use cluster_run::{Gate, let_go, run_script};
 use nrt_base::{LineNo, NoMemory};
 use nrt_streams::{Sink, Source};
 use script_serving::Script;
@@ -33,8 +33,9 @@ fn show_run<R: Threads + Wait + Sync, G: Gate + Sync>(
     ensures { IfOk result (λ text. ShowsScript (picture_by kind) script.now text.items) }
 {
     let cluster = run_script(rt, alloc, gate, script)?;
-    let text = show(alloc, kind, script.nodes, cluster.entries())?;
-    Ok(text)
+    let shown = show(alloc, kind, script.nodes, cluster.entries());
+    let_go(Some(cluster));
+    shown
 }
 
 /// Runs the script that the bytes are, and writes what is shown of its run.

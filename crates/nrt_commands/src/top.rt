@@ -19,13 +19,14 @@ ghost use Rattle.nrt_commands.specs.Rows.{IsKnownRow};
 use crate::loading::load;
 use crate::nodes::{NodeText, node_source};
 use crate::showing::show_source;
-use cluster_run::{Cluster, Gate, run_script};
+use cluster_run::{Cluster, Gate, let_go, run_script};
 use disk_memory::MemDir;
 use nrt_base::LineNo;
 use nrt_streams::{Arg, Sink, Source};
 use report_text::report_entries;
 use script_text::LineFault;
 use std::alloc::Global;
+use std::mem::replace;
 use std::sync::Wait;
 use std::thread::Threads;
 use stream_commands::{
@@ -84,9 +85,10 @@ fn run_source<R: Threads + Wait + Sync, S: Source, K: Sink, G: Gate + Sync>(
         return Status::Memory;
     };
     let Ok(text) = report_entries(alloc, cluster.entries()) else {
+        let_go(Some(cluster));
         return Status::Memory;
     };
-    *left = Some(cluster);
+    let_go(replace(left, Some(cluster)));
     match write_all(sink, text.as_slice()) {
         Ok(()) => Status::Done,
         Err(_) => Status::WriteFault,

@@ -12,7 +12,7 @@ use disk_memory::MemDir;
 use index_check::check_image;
 use nrt_base::{LineNo, NoMemory};
 pub use nrt_commands::run_nrt;
-use nrt_commands::{Cluster, OpenGate};
+use nrt_commands::{Cluster, OpenGate, let_go};
 use nrt_streams::Arg;
 use report_judge::{cut_source, explain as why, judge};
 use script_text::{LineFault, parse_script};
@@ -181,5 +181,6 @@ fn main(rt: HostRuntime) -> ExitCode {
         is_broken: sink.is_broken(),
     };
     let _ = explain(&rt, status, &seen);
+    let_go(kept);
     ExitCode::from(status.number())
 }

@@ -2,7 +2,7 @@
 
 use crate::running::{PLAIN, run, words};
 use nrt_base::LineNo;
-use nrt_commands::{OpenGate, run_nrt};
+use nrt_commands::{OpenGate, let_go, run_nrt};
 use nrt_streams::{MemSink, MemSource};
 use script_text::{LONGEST, LineFault};
 use std::alloc::Global;
@@ -206,7 +206,7 @@ fn line_feeds<R: Threads + Wait + Sync>(
     let mut source = MemSource::new(vec![in alloc; b'\n'; count]?, 4096, Vec::new(alloc));
     let mut sink = MemSink::new(alloc, 0, 1, Vec::new(alloc))?;
     let mut kept = None;
-    Ok(run_nrt(
+    let status = run_nrt(
         rt,
         alloc,
         words.as_slice(),
@@ -214,7 +214,9 @@ fn line_feeds<R: Threads + Wait + Sync>(
         &mut sink,
         &OpenGate,
         &mut kept,
-    ))
+    );
+    let_go(kept);
+    Ok(status)
 }
 
 #[test]

@@ -1,7 +1,7 @@
 //! Reads and writes that fail.
 
 use crate::running::{PLAIN, words};
-use nrt_commands::{OpenGate, run_nrt};
+use nrt_commands::{OpenGate, let_go, run_nrt};
 use nrt_streams::{MemSink, MemSource};
 use std::alloc::Global;
 use std::sync::Wait;
@@ -29,6 +29,7 @@ fn counted<R: Threads + Wait + Sync>(
         &OpenGate,
         &mut kept,
     );
+    let_go(kept);
     Ok((status, source.calls(), sink.calls()))
 }
 

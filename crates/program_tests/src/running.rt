@@ -1,6 +1,6 @@
 //! Runs of the program over a source and a sink in memory, and what their reports say.
 
-use nrt_commands::{Gate, OpenGate, run_nrt};
+use nrt_commands::{Gate, OpenGate, let_go, run_nrt};
 use nrt_streams::{Arg, MemSink, MemSource};
 use std::alloc::Global;
 use std::sync::Wait;
@@ -53,6 +53,7 @@ pub fn run_gated<R: Threads + Wait + Sync, G: Gate + Sync>(
         gate,
         &mut kept,
     );
+    let_go(kept);
     Ok((status, sink.bytes().to_vec(alloc)?))
 }
 
@@ -76,6 +77,7 @@ pub fn ran<R: Threads + Wait + Sync>(
         &OpenGate,
         &mut kept,
     );
+    let_go(kept);
     Ok((status, sink.bytes().to_vec(alloc)?))
 }
 
