@@ -10,7 +10,6 @@ use load_script::{generated, summary};
 use nrt_base::NoMemory;
 use nrt_streams::{Arg, Sink};
 use std::alloc::Global;
-use std::mem::replace;
 use std::sync::Wait;
 use std::thread::Threads;
 use stream_commands::{Status, write_all};
@@ -65,7 +64,7 @@ fn load_documents<R: Threads + Wait + Sync, K: Sink, G: Gate + Sync>(
     let Ok((cluster, text)) = run_load(rt, alloc, gate, n) else {
         return Status::Memory;
     };
-    let_go(replace(left, Some(cluster)));
+    let_go(left.replace(cluster));
     match write_all(sink, text.as_slice()) {
         Ok(()) => Status::Done,
         Err(_) => Status::WriteFault,

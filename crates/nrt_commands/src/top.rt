@@ -26,7 +26,6 @@ use nrt_streams::{Arg, Sink, Source};
 use report_text::report_entries;
 use script_text::LineFault;
 use std::alloc::Global;
-use std::mem::replace;
 use std::sync::Wait;
 use std::thread::Threads;
 use stream_commands::{
@@ -88,7 +87,7 @@ fn run_source<R: Threads + Wait + Sync, S: Source, K: Sink, G: Gate + Sync>(
         let_go(Some(cluster));
         return Status::Memory;
     };
-    let_go(replace(left, Some(cluster)));
+    let_go(left.replace(cluster));
     match write_all(sink, text.as_slice()) {
         Ok(()) => Status::Done,
         Err(_) => Status::WriteFault,
