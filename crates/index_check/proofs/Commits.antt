@@ -98,11 +98,22 @@ module _ (image : Image) where
         only (TwoRows name key) h = absurd h
         only (OtherDocs at) h = absurd h
 
+    no_gone : (name : Name) (infos : Infos) → IsAnswered {X = Infos} (Err (Gone name)) (Ok infos) → ⊥
+    no_gone name infos (inl e) = gone_not_memory (same_err _ _ e)
+      where
+        gone_not_memory : ◌≡◌ {A = RecoverFault} (Gone name) NoMemory → ⊥
+        gone_not_memory e = cc
+    no_gone name infos (inr (inl e)) = gone_not_failed (same_err _ _ e)
+      where
+        gone_not_failed : ◌≡◌ {A = RecoverFault} (Gone name) DiskFailed → ⊥
+        gone_not_failed e = cc
+    no_gone name infos (inr (inr e)) = ok_never_err _ _ (sym e)
+
     pub not_loaded : (fault : RecoverFault) → SaysHowBroken image fault → IsLoaded image n (Err fault) → IsExact {X = Infos} (ShowsCommit image n) (HasBrokenInfos image) (Err (fault_of_infos fault))
     not_loaded NoMemory says loaded = exact_cut (ShowsCommit image n) (HasBrokenInfos image) Memory tt
     not_loaded DiskFailed says loaded = exact_cut (ShowsCommit image n) (HasBrokenInfos image) Failed tt
     not_loaded (Broken name fault) says loaded = infos_broken name fault says loaded
-    not_loaded (Gone name) says loaded = exact_cut (ShowsCommit image n) (HasBrokenInfos image) Memory tt
+    not_loaded (Gone name) says loaded = absurd (no_gone name says.infos (loaded.each_infos says.infos (moved says.number says.infos says.shown)))
 
   -- ---- the commit
   pub shows_nothing : ShowsNothing image → IsExact (ShowsFound image) (IsCommitFault image) (Ok None)

@@ -7,6 +7,7 @@ mod ImageLaws
 mod Images
 mod LiveRows
 mod Loads
+mod Named
 mod NameTests
 mod OneSegment
 mod Places

@@ -11,7 +11,7 @@ use Rattle.commit_steps.specs.declared.recovery.RecoverFault.{RecoverFault}
 use Rattle.commit_steps.specs.declared.recovery.RecoverFault.TheVariants.{Memory as NoMemory, Failed as DiskFailed, Broken, Gone}
 use Rattle.index_check.specs.declared.commit.Found.{Found}
 use Rattle.index_check.specs.declared.fault.CheckFault.{CheckFault}
-use Rattle.index_check.specs.declared.fault.CheckFault.TheVariants.{Memory, Failed, File}
+use Rattle.index_check.specs.declared.fault.CheckFault.TheVariants.{Memory, Failed, NoFile, File}
 use Rattle.index_check.specs.Checked.{IsWrong}
 
 -- what the directory shows: no commit, or this one, with the documents that it stands for
@@ -24,12 +24,12 @@ abbrev pub HasBrokenInfos : Image → CheckFault → Type 0
 HasBrokenInfos reads (File name fault) = IsBrokenCommit reads name fault
 HasBrokenInfos reads other = ⊥
 
--- a fault of the call that reads infos, as the check tells it; that a file is gone it never finds
+-- a fault of the call that reads infos, as the check tells it
 abbrev pub fault_of_infos : RecoverFault → CheckFault
 fault_of_infos NoMemory = Memory
 fault_of_infos DiskFailed = Failed
 fault_of_infos (Broken name fault) = File name fault
-fault_of_infos (Gone name) = Memory
+fault_of_infos (Gone name) = NoFile name
 
 -- the directory shows a commit, and this is wrong with it
 pub record ShowsWrong (reads : Image) (fault : CheckFault) : Type 0 where

@@ -1,18 +1,21 @@
 //! What a check of an image finds.
 
-ghost use Rattle.std.specs.Prelude.{◌≡◌, ◌⊎◌, Ok, Err, IfOk, alloc_error};
+ghost use Rattle.std.specs.Prelude.{◌≡◌, ◌⊎◌, Ok, Err, map, IfOk, IsTrue, IsSome, alloc_error};
+ghost use Rattle.file_names.specs.Names.{is_ascending};
 ghost use Rattle.disk_model.specs.Disk.{reads_of};
+ghost use Rattle.disk_memory.specs.Memory.{cells_in};
 ghost use Rattle.index_check.specs.Images.{IsNoImage};
 ghost use Rattle.index_check.specs.Directory.{directory_with};
+ghost use Rattle.index_check.specs.Lines.{name_and_number};
 ghost use Rattle.index_check.specs.Checks.{TellsNoCommit, TellsNumbers, IsRefusalOf, IsCheckOfImage, IsExactCheck};
 
+use crate::calm::CalmDir;
 use crate::commit::read_commit;
 use crate::directory::memory_dir;
 use crate::fault::CheckFault;
 use crate::line::{commit_line, fault_line, name_and_number, none_line};
 use crate::reading::{ImageFault, read_image};
 use bytes::Bytes;
-use disk_model::Dir;
 use file_names::FileName;
 use nrt_base::{Doc, List, NoMemory};
 use segment_infos::Infos;
@@ -41,9 +44,9 @@ fn with_commit(alloc: Global, number: u64, infos: &Infos, docs: &[Doc]) -> Resul
     Ok(Checked { line, fault: None })
 }
 
-// What is wrong, with its line. No line speaks of want of memory or of a disk that failed, which no directory in memory does
-// that has no plan.
+// What is wrong, with its line. A fault that no line speaks of is want of memory.
 fn refusal(alloc: Global, fault: CheckFault) -> Result<Checked, NoMemory>
+    requires { (fault ≡ CheckFault.Memory) ⊎ IsSome (name_and_number fault) }
     ensures { IfOk result (IsRefusalOf fault) }
 {
     let Some((name, number)) = name_and_number(&fault) else {
@@ -57,8 +60,8 @@ fn refusal(alloc: Global, fault: CheckFault) -> Result<Checked, NoMemory>
 }
 
 // What a check of a directory finds.
-fn check<D: Dir>(alloc: Global, dir: &mut D) -> Result<Checked, NoMemory>
-    ensures { IsExactCheck alloc_error (reads_of (D.cells dir.old)) result }
+fn check(alloc: Global, dir: &mut CalmDir) -> Result<Checked, NoMemory>
+    ensures { IsExactCheck alloc_error (reads_of (cells_in dir.old)) result }
 {
     match read_commit(alloc, dir) {
         Ok(None) => without_commit(alloc),
@@ -67,8 +70,9 @@ fn check<D: Dir>(alloc: Global, dir: &mut D) -> Result<Checked, NoMemory>
     }
 }
 
-// What a check of the directory of these files finds.
+// What a check of the directory of these files, whose names ascend, finds.
 fn check_files(alloc: Global, files: Vec<(FileName, Bytes)>) -> Result<Checked, NoMemory>
+    requires { IsTrue (is_ascending (map (λ f. f.0) files.items)) }
     ensures { IsExactCheck alloc_error (directory_with files.items) result }
 {
     let mut dir = memory_dir(alloc, files)?;

@@ -36,19 +36,21 @@ fn number_in<D: Dir>(dir: &mut D) -> Result<Option<u64>, CheckFault>
 {
     match newest_number(dir) {
         Ok(number) => Ok(number),
+        Err(RecoverFault::Memory) => Err(CheckFault::Memory),
         Err(RecoverFault::Failed) => Err(CheckFault::Failed),
-        Err(_) => Err(CheckFault::Memory),
+        Err(_) => unreachable!(),
     }
 }
 
-// Why infos were not read, as the check tells it. That a file is gone their reader never finds.
+// Why infos were not read, as the check tells it.
 fn told(fault: RecoverFault) -> CheckFault
     ensures { result ≡ fault_of_infos fault }
 {
     match fault {
+        RecoverFault::Memory => CheckFault::Memory,
         RecoverFault::Failed => CheckFault::Failed,
         RecoverFault::Broken(name, fault) => CheckFault::File(name, fault),
-        RecoverFault::Memory | RecoverFault::Gone(_) => CheckFault::Memory,
+        RecoverFault::Gone(name) => CheckFault::NoFile(name),
     }
 }
 

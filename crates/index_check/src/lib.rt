@@ -2,6 +2,7 @@
 //! of a directory as it reads now. No node needs it.
 #![tactic(auto)]
 
+mod calm;
 mod check;
 mod checking;
 mod commit;

@@ -1,6 +1,9 @@
 use Rattle.index_check.proofs.Images.{not_said, said_of, nothing_else}
 use Rattle.index_check.proofs.checking.check_image.Goals as goal
 
+pub check_files-requires : goal.check_files-requires
+check_files-requires c = c.in-Ok.ensures.files.ascending
+
 pub returns-in-Err-clause-each_check : goal.returns-in-Err-clause-each_check
 returns-in-Err-clause-each_check c checked is = not_said c.args.bytes.now c.in-Err.fault c.in-Err.ensures.each_image checked is
 
