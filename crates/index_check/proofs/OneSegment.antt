@@ -1,5 +1,6 @@
 -- What checking one segment answers.
 use Rattle.std.proofs.Common.{◌≡◌, ◌⊎◌, ℕ, Bool, List, Option, Some, None, Result, Ok, Err, refl, sym, ap, subst, ◌∙◌, inl, inr}
+use Rattle.std.specs.Prelude.{IfOk, IfErr}
 use Rattle.nrt_base.proofs.Plain.{ok_never_err, same_err}
 use Rattle.codec_frame.specs.declared.frame.FileFault.{FileFault}
 use Rattle.disk_model.specs.Disk.{Name, Image}
@@ -22,6 +23,7 @@ use Rattle.index_check.specs.declared.fault.CheckFault.{CheckFault}
 use Rattle.index_check.specs.declared.fault.CheckFault.TheVariants.{Memory, Failed, NoFile, File, Disagrees, Postings, TwoRows, OtherDocs}
 use Rattle.index_check.specs.Answers.{IsCutShort, IsExact}
 use Rattle.index_check.specs.Segments.{segment_file_name, LacksFile, IsRightOf, fault_of_reader, HaveFault, IsSegmentWrong, IsRightSegment}
+use Rattle.index_check.specs.Judged.{IsMemoryOrUnsound}
 use Rattle.index_check.proofs.Exact.{IsOnlyThere, exact_value, exact_cut, exact_fault, exact_same}
 use Rattle.index_check.proofs.Loads.{not_lacking, lacks_one}
 
@@ -104,7 +106,7 @@ module _ (parts : SegParts) (r : SegRecord) where
 
     module _ (faults : (other : SegFault) → IsSegmentFault parts r other → (◌≡◌ {A = Result Shown SegFault} (Ok shown) (Err NoMemory)) ⊎ (◌≡◌ {A = Result Shown SegFault} (Ok shown) (Err other))) where
       -- its postings are those of its rows
-      pub is_right : IsSound shown → IsExact (IsRightOf parts r) (HaveFault parts r) (Ok shown)
+      is_right : IsSound shown → IsExact (IsRightOf parts r) (HaveFault parts r) (Ok shown)
       is_right sound = exact_value (IsRightOf parts r) (HaveFault parts r) shown (record { right = record { segment = segment; sound = sound }; one = λ y right. one_here y right.segment; none = none })
         where
           none : (f : CheckFault) → HaveFault parts r f → ⊥
@@ -118,7 +120,7 @@ module _ (parts : SegParts) (r : SegRecord) where
           none (OtherDocs at) k = k
 
       -- its postings are others
-      pub other_postings : (IsSound shown → ⊥) → IsExact (IsRightOf parts r) (HaveFault parts r) (Err (Postings (segment_file_name r Post)))
+      other_postings : (IsSound shown → ⊥) → IsExact (IsRightOf parts r) (HaveFault parts r) (Err (Postings (segment_file_name r Post)))
       other_postings unsound =
           exact_fault (IsRightOf parts r) (HaveFault parts r) (Postings (segment_file_name r Post)) (record {
             there = record { shown = shown; segment = segment; unsound = unsound; name_is = refl };
@@ -135,6 +137,12 @@ module _ (parts : SegParts) (r : SegRecord) where
           only (NoFile name) k = absurd k
           only (TwoRows name key) k = absurd k
           only (OtherDocs at) k = absurd k
+
+      -- its postings are those of its rows, or they are others, or memory ran out
+      pub by_postings : (result : Result Shown CheckFault) → IfOk result (λ same. (same ≡ shown) × IsSound shown) → IfErr result (IsMemoryOrUnsound shown r) → IsExact (IsRightOf parts r) (HaveFault parts r) result
+      by_postings (Ok same) sound fault = subst (λ (s : Shown). IsExact (IsRightOf parts r) (HaveFault parts r) (Ok s)) (sym sound.0) (is_right sound.1)
+      by_postings (Err f) sound (inl memory) = exact_cut (IsRightOf parts r) (HaveFault parts r) f (subst IsCutShort (sym memory) tt)
+      by_postings (Err f) sound (inr others) = subst (λ (g : CheckFault). IsExact (IsRightOf parts r) (HaveFault parts r) (Err g)) (sym others.0) (other_postings others.1)
 
 -- ---- the segment in its directory
 module _ (reads : Image) (r : SegRecord) where

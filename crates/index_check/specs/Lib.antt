@@ -5,6 +5,7 @@ pub mod Commit
 pub mod Directory
 pub mod Images
 pub mod ImagesNow
+pub mod Judged
 pub mod Lines
 pub mod Loading
 pub mod Reading

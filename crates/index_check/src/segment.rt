@@ -1,6 +1,6 @@
 //! One segment, read and checked.
 
-ghost use Rattle.std.specs.Prelude.{◌≡◌, ◌≤◌, ◌<◌, ◌↔◌, map, length, slice_get, IfOk, IfSome, IsErrOf, IsTrue, IsSome};
+ghost use Rattle.std.specs.Prelude.{◌≡◌, ◌≤◌, ◌<◌, ◌↔◌, map, length, slice_get, IfOk, IfErr, IfSome, IsErrOf, IsTrue, IsSome};
 ghost use Rattle.std.specs.List.{All, AllZip};
 ghost use Rattle.nrt_base.specs.Causes.{Rose};
 ghost use Rattle.disk_model.specs.Disk.{reads_of};
@@ -12,6 +12,7 @@ ghost use Rattle.segment_infos.specs.Infos.{IsRecord};
 ghost use Rattle.seg_reader.specs.Files.{record_id, info_of};
 ghost use Rattle.seg_reader.specs.Sound.{IsSound, term_row};
 ghost use Rattle.index_check.specs.Answers.{IsExact};
+ghost use Rattle.index_check.specs.Judged.{IsMemoryOrUnsound};
 ghost use Rattle.index_check.specs.Segments.{IsRightOf, HaveFault, IsSegmentWrong, IsRightSegment, IsFirstWrong, segment_file_name, fault_of_reader};
 
 use crate::fault::CheckFault;
@@ -126,6 +127,53 @@ fn named(record: &SegRecord, fault: SegFault) -> CheckFault
     }
 }
 
+// The segment, if its postings, which have this file, are those of its rows.
+fn if_sound(
+    alloc: Global,
+    segment: Segment,
+    record: &SegRecord,
+    format: Format,
+    post: &Bytes,
+) -> Result<Segment, CheckFault>
+    requires { IsPostingsFile (record_id record.now) (in_format format segment.entries) post.now }
+    ensures sound { IfOk result (λ same. (same ≡ segment) × IsSound segment) }
+    ensures fault { IfErr result (IsMemoryOrUnsound segment record.now) }
+    ensures disk { IsErrOf result CheckFault.Failed → ⊥ }
+{
+    match has_own_postings(alloc, &segment, record, format, post) {
+        Ok(true) => Ok(segment),
+        Ok(false) => {
+            drop(segment);
+            Err(CheckFault::Postings(name_of(record, SegFile::Post)))
+        }
+        Err(_) => {
+            drop(segment);
+            Err(CheckFault::Memory)
+        }
+    }
+}
+
+// The segment of these files, whose postings, which have this file, are in this format and those of its rows.
+fn read_parts(
+    alloc: Global,
+    parts: SegParts,
+    record: &SegRecord,
+    format: Format,
+    post: &Bytes,
+) -> Result<Segment, CheckFault>
+    requires live { IsSome parts.live ↔ (0 < record.now.live_gen) }
+    requires format { (written : Format)
+        → IsInfoFile (record_id record.now) (info_of written record.now) parts.info → format ≡ written }
+    requires post { post.now ≡ parts.post }
+    ensures exact { IsExact (IsRightOf parts record.now) (HaveFault parts record.now) result }
+    ensures disk { IsErrOf result CheckFault.Failed → ⊥ }
+{
+    match Segment::from_parts(alloc, parts, record) {
+        Ok(segment) => if_sound(alloc, segment, record, format, post),
+        Err(fault) => Err(named(record, fault)),
+    }
+}
+
 // The segment of these files, whose postings are those of its rows.
 fn checked_segment(
     alloc: Global,
@@ -136,18 +184,9 @@ fn checked_segment(
     ensures exact { IsExact (IsRightOf parts record.now) (HaveFault parts record.now) result }
     ensures disk { IsErrOf result CheckFault.Failed → ⊥ }
 {
+    let format = format_in(&parts.info, record);
     let post = parts.post.share(alloc)?;
-    let info = parts.info.share(alloc)?;
-    let segment = match Segment::from_parts(alloc, parts, record) {
-        Ok(segment) => segment,
-        Err(fault) => return Err(named(record, fault)),
-    };
-    let format = format_in(&info, record);
-    if has_own_postings(alloc, &segment, record, format, &post)? {
-        Ok(segment)
-    } else {
-        Err(CheckFault::Postings(name_of(record, SegFile::Post)))
-    }
+    read_parts(alloc, parts, record, format, &post)
 }
 
 // The segment of a record, or what is wrong with it. It changes nothing.
