@@ -1,12 +1,7 @@
 -- The directory of the files of an image.
 use Rattle.std.specs.Prelude.{List, [], ◌∷◌, Some, None}
 use Rattle.disk_model.specs.Disk.{Image, put}
-use Rattle.disk_model.specs.Faults.{Plans}
 use Rattle.index_check.specs.Images.{NamedFile}
-
--- no fault is planned, and none was met
-abbrev pub no_plans : Plans
-no_plans = record { once = 0; stop = 0; met_once = 0; met_stop = 0 }
 
 -- what stands under each name after these files were put there, one after the other
 abbrev pub after_puts : Image → List NamedFile → Image

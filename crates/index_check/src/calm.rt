@@ -23,13 +23,13 @@ impl Model for CalmDir {
     ghost use Rattle.std.specs.Prelude.{◌≡◌};
     ghost use Rattle.disk_memory.specs.declared.memory.MemDir.{MemDir};
     ghost use Rattle.disk_memory.specs.Memory.{plans_of};
-    ghost use Rattle.index_check.specs.Directory.{no_plans};
 
     ghost Value = { MemDir };
 
     ghost view = { λ d. d.dir };
 
-    ghost invariant = { λ d. plans_of d.dir ≡ no_plans };
+    ghost invariant = { λ d. plans_of d.dir ≡
+        record { once = 0; stop = 0; met_once = 0; met_stop = 0 } };
 }
 
 impl CalmDir {
